@@ -1,0 +1,5 @@
+pub mod Kinds
+pub mod Refusals
+pub mod Messages
+pub mod View
+pub mod Lists

@@ -1,0 +1,74 @@
+// Messages between stations, and what a line of them is.
+ghost use mathlib.Core.Path.{_≡_};
+ghost use Prim.Native.Nat.{ℕ};
+ghost use Rattle.std.specs.Results.{mapped};
+ghost use Rattle.line.specs.Refusals.{told};
+ghost use Rattle.line.specs.View.{msgOf};
+ghost use Rattle.line.specs.Lists.{Lists, pair, paired, total as sum, posting, counting, peeking, dropping};
+
+mod fault;
+mod kind;
+mod message;
+mod refusal;
+
+pub use fault::LineFault;
+pub use fault::Misfit;
+pub use kind::Kind;
+pub use message::Message;
+pub use message::methods::misfit;
+pub use refusal::Layer;
+pub use refusal::Place;
+pub use refusal::Refusal;
+
+/// A line: what carries messages between stations. Its meaning is, for each ordered pair of stations, the list of
+/// messages waiting, oldest first. Whoever makes a line shows what each call answers, and every list after it.
+pub trait Line: Sized {
+    /// How many messages the line holds.
+    const CAPACITY: usize;
+
+    /// The constant's value, for contracts, which cannot name an associated constant.
+    ghost room: { ℕ };
+
+    /// The messages waiting, for a sender and a receiver. Only the lists of pairs of stations count.
+    ghost waiting: { Self → Lists };
+
+    /// The constant, by a call that tells a contract its value: every kind of line writes `Self::CAPACITY`.
+    fn places() -> usize
+        ensures { λ r. ⌜ r ≡ room ⌝ };
+
+    /// Puts a message last in its pair's list: NO PLACE where as many messages wait as the line holds.
+    fn post(&mut self, message: Message) -> Result<(), LineFault>
+        ensures { λ r. ⌜ (mapped (λ x. x) told r, paired (waiting (now (self .exit)))) ≡ posting room (msgOf message) (paired (waiting (now (self .entry)))) ⌝ };
+
+    /// How many messages of the pair wait: PAIR where there is no such pair.
+    fn count(&self, sender: u8, receiver: u8) -> Result<usize, LineFault>
+        ensures { λ r. ⌜ mapped (λ x. x) told r ≡ counting sender receiver (paired (waiting (now (self .entry)))) ⌝ };
+
+    /// How many messages wait, over all pairs.
+    fn total(&self) -> usize
+        ensures { λ r. ⌜ r ≡ sum (paired (waiting (now (self .entry)))) ⌝ };
+
+    /// A copy of the pair's oldest message: PAIR, then EMPTY.
+    fn peek(&self, sender: u8, receiver: u8) -> Result<Message, LineFault>
+        ensures { λ r. ⌜ mapped msgOf told r ≡ peeking sender receiver (paired (waiting (now (self .entry)))) ⌝ };
+
+    /// Takes the pair's oldest message off the line: PAIR, then EMPTY.
+    fn drop_oldest(&mut self, sender: u8, receiver: u8) -> Result<(), LineFault>
+        ensures { λ r. ⌜ (mapped (λ x. x) told r, paired (waiting (now (self .exit)))) ≡ dropping sender receiver (paired (waiting (now (self .entry)))) ⌝ };
+}
+
+/// The capacity of a kind of line: its constant.
+pub fn capacity<L: Line>() -> usize
+    ensures { λ r. ⌜ r ≡ L·Line .room ⌝ }
+{
+    let told = L::CAPACITY;
+    let places = L::places();
+    if told == places { told } else { places }
+}
+
+/// Whether these are the numbers of two different stations.
+pub fn is_pair(sender: u8, receiver: u8) -> bool
+    ensures { λ r. ⌜ r ≡ pair sender receiver ⌝ }
+{
+    sender < 8 && receiver < 8 && sender != receiver
+}
