@@ -1,1 +1,3 @@
 pub mod Making
+pub mod Totals
+pub mod Postings

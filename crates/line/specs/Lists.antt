@@ -80,7 +80,7 @@ abbrev pub dropping : ℕ → ℕ → Lists → Change
 dropping s r w = taking s r w (peeking s r w)
 
 -- posting one after another, up to the first that is refused
-abbrev pub going : ℕ → List Msg → Change → Change
-going capacity [] c = c
-going capacity (m ∷ ms) (Ok _, w) = going capacity ms (posting capacity m w)
-going capacity (m ∷ ms) (Err e, w) = (Err e, w)
+abbrev pub postings : ℕ → List Msg → Change → Change
+postings capacity [] c = c
+postings capacity (m ∷ ms) (Ok _, w) = postings capacity ms (posting capacity m w)
+postings capacity (m ∷ ms) (Err e, w) = (Err e, w)

@@ -1,10 +1,13 @@
 // Messages between stations, and what a line of them is.
 ghost use mathlib.Core.Path.{_≡_};
-ghost use Prim.Native.Nat.{ℕ};
+ghost use mathlib.Core.List.{map};
+ghost use Prim.Native.Nat.{ℕ, _+_, _≤_};
+ghost use lib.ListN.{length};
+ghost use Rattle.std.specs.declared.result.Result.the-variants.{Ok};
 ghost use Rattle.std.specs.Results.{mapped};
 ghost use Rattle.line.specs.Refusals.{told};
 ghost use Rattle.line.specs.View.{msgOf};
-ghost use Rattle.line.specs.Lists.{Lists, pair, paired, total as sum, posting, counting, peeking, dropping};
+ghost use Rattle.line.specs.Lists.{Lists, pair, paired, total as sum, posting, counting, peeking, dropping, postings};
 
 mod fault;
 mod kind;
@@ -71,4 +74,15 @@ pub fn is_pair(sender: u8, receiver: u8) -> bool
     ensures { λ r. ⌜ r ≡ pair sender receiver ⌝ }
 {
     sender < 8 && receiver < 8 && sender != receiver
+}
+
+/// Posts messages one after another, up to the first that is refused: none is while enough places are free.
+pub fn post_all<L: Line>(line: &mut L, messages: &[Message]) -> Result<(), LineFault>
+    ensures exact { λ r. ⌜ (mapped (λ x. x) told r, paired (L·Line .waiting (now (line .exit)))) ≡ postings (L·Line .room) (map msgOf (now (messages .entry))) (Ok tt, paired (L·Line .waiting (now (line .entry)))) ⌝ }
+    ensures enough { λ r. ⌜ (sum (paired (L·Line .waiting (now (line .entry)))) + length (now (messages .entry)) ≤ L·Line .room → (r ≡ Ok tt) × (sum (paired (L·Line .waiting (now (line .exit)))) ≡ sum (paired (L·Line .waiting (now (line .entry)))) + length (now (messages .entry)))) ⌝ }
+{
+    for message in messages {
+        line.post(*message)?;
+    }
+    Ok(())
 }
