@@ -1,0 +1,4 @@
+pub mod Words
+pub mod Heads
+pub mod Round
+pub mod Reading
