@@ -3,6 +3,7 @@ ghost use mathlib.Core.Path.{_≡_};
 ghost use Prim.Native.Nat.{_<_};
 ghost use lib.ListN.{take};
 ghost use Rattle.std.specs.Vec.{made};
+ghost use Rattle.std.specs.declared.result.Result.the-variants.{Ok};
 ghost use Rattle.std.specs.Results.{mapped, Cases};
 ghost use Rattle.line.specs.View.{msgOf};
 ghost use Rattle.frame.specs.Refusals.{told};
@@ -62,4 +63,27 @@ pub fn read(bytes: &[u8]) -> Result<(Message, usize), FrameFault>
     let (text, _) = rest.split_at(length);
     let message = Message::new(sender as u8, receiver as u8, page as u8, kind, text)?;
     Ok((message, HEADER + length))
+}
+
+/// The frame of `message` at the start of `out`, and its size; the bytes after it stand.
+pub fn write(message: &Message, out: &mut [u8]) -> Result<usize, FrameFault>
+    ensures exact { λ r. ⌜ (mapped (λ n. n) told r, now (out .exit)) ≡ written (msgOf (now (message .entry))) (now (out .entry)) ⌝ }
+    ensures again { λ r. ⌜ made r (λ n. decoded (now (out .exit)) ≡ Ok (msgOf (now (message .entry)), n)) ⌝ }
+{
+    let text = message.text();
+    let size = HEADER + text.len();
+    if out.len() < size {
+        return Err(FrameFault::Buffer(out.len()));
+    }
+    let [r0, r1, r2, r3] = u32::from(message.receiver()).to_be_bytes();
+    let [k0, k1, k2, k3] = u32::from(message.kind().number()).to_be_bytes();
+    let [p0, p1, p2, p3] = u32::from(message.page()).to_be_bytes();
+    let [s0, s1, s2, s3] = u32::from(message.sender()).to_be_bytes();
+    let [n0, n1, n2, n3] = (text.len() as u32).to_be_bytes();
+    let header = [
+        r0, r1, r2, r3, k0, k1, k2, k3, p0, p1, p2, p3, s0, s1, s2, s3, n0, n1, n2, n3,
+    ];
+    out[0..HEADER].copy_from_slice(&header);
+    out[HEADER..size].copy_from_slice(text);
+    Ok(size)
 }

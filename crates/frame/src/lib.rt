@@ -5,5 +5,7 @@ mod theorem;
 
 pub use codec::HEADER;
 pub use codec::check_words;
+pub use codec::read;
+pub use codec::write;
 pub use fault::FrameFault;
 pub use theorem::round_trip;

@@ -30,16 +30,21 @@ fitting s r p k t xs ys r′ p′ s′ none er ep es et =
     ∙ ap (λ (z : List ℕ). Ok (msg s r p k z)) (take-at t ys (length t) refl)
     ∙ ap (λ (o : Option Misfit). unless o (msg s r p k t)) (none ∙ (λ i. misfit (er i) k (ep i) (es i) (length t)))
 
+within : (m : Message) → length (msgOf m .text) ≤ m .length
+within m = rw (length-take (m .length) (m .text)) (omega arith)
+
+pub short : (m : Message) → length (msgOf m .text) ≤ 64
+short m = omega (arith, within m, m .«length_in»)
+
 -- no part of a message misfits
 pub sound : (m : Message) → misfit (m .receiver) (m .kind) (m .page) (m .sender) (length (msgOf m .text)) ≡ None
 sound m =
-    let short : length (take (m .length) (m .text)) ≤ m .length = rw (length-take (m .length) (m .text)) (omega arith) in
     cond-false (leb 8 (m .receiver)) _ _ (lt-leb 8 (m .receiver) (m .«receiver_in»))
     ∙ cond-false (leb 16 (m .page)) _ _ (lt-leb 16 (m .page) (m .«page_in»))
     ∙ cond-false (leb 8 (m .sender) || eqb (m .sender) (m .receiver)) _ _
     (or-from _ _ (lt-leb 8 (m .sender) (m .«sender_in»)) (ne-eqb (m .sender) (m .receiver) (m .apart)))
     ∙ cond-false (ltb 64 (length (msgOf m .text)) || (ltb 0 (length (msgOf m .text)) && not (bears (m .kind)))) _ _
-    (or-from _ _ (le-ltb 64 _ (omega (arith, m .«length_in»))) (⊎-elim
+    (or-from _ _ (le-ltb 64 _ (short m)) (⊎-elim
     (λ (t : bears (m .kind) ≡ true). and-right (ltb 0 (length (msgOf m .text))) _ (not-from-true _ t))
-    (λ (t : bears (m .kind) ≡ false). and-left (ltb 0 (length (msgOf m .text))) _ (le-ltb 0 _ (omega (arith, m .mute t))))
+    (λ (t : bears (m .kind) ≡ false). and-left (ltb 0 (length (msgOf m .text))) _ (le-ltb 0 _ (omega (arith, within m, m .mute t))))
     (cases-bool (bears (m .kind)))))
