@@ -1,0 +1,75 @@
+-- The list of a party line as a log.
+use Prim.Native.Nat.{ℕ, suc, _+_, _<_, _≤_}
+use native.Mathlib.Omega.{arith}
+use mathlib.Core.Path.{_≡_, refl, sym, ap, _∙_}
+use mathlib.Core.Bool.{Bool, true, false, cond}
+use mathlib.Core.List.{List, [], _∷_, _++_, map, append-nil}
+use lib.Dec.{ltb}
+use lib.ListN.{length, getD, take, drop}
+use Rattle.std.specs.shelf.Lists.{All}
+use Rattle.std.specs.Holes.{removed}
+use Rattle.std.proofs.shelf.Lists.{map-append, take-append-drop, take-map, drop-map, getD-map, length-map, length-append, take-all}
+use Rattle.std.proofs.shelf.Elements.{kept-by-more}
+use Rattle.std.proofs.shelf.Tests.{lt-ltb, and-from, ne-eqb, not-from-false}
+use Rattle.std.specs.declared.option.Option.the-variants.{Some}
+use lib.Seq.{drop-cons}
+use Rattle.line.specs.declared.message.Message.{Message}
+use Rattle.line.specs.Messages.{Msg}
+use Rattle.line.specs.View.{msgOf}
+use Rattle.lines.specs.Logs.{goes, of, Found}
+use Rattle.lines.proofs.Logs.{Proper}
+
+pub proper : (m : Message) → Proper (msgOf m)
+proper m =
+    and-from _ _ (lt-ltb _ _ (m .«sender_in»))
+    (and-from _ _ (lt-ltb _ _ (m .«receiver_in»)) (not-from-false _ (ne-eqb _ _ (m .apart))))
+
+pub all-proper : (ms : List Message) → All Proper (map msgOf ms)
+all-proper [] = tt
+all-proper (m ∷ ms) = (proper m, all-proper ms)
+
+-- a place of the list: m stands there
+module _ (ms : List Message) (i : ℕ) (m : Message) (lt : i < length ms) (at : m ≡ getD ms i m) where
+
+  -- the log about that place
+  pub about : map msgOf ms ≡ take i (map msgOf ms) ++ msgOf m ∷ drop (suc i) (map msgOf ms)
+  about =
+      sym (take-append-drop i (map msgOf ms))
+      ∙ ap (λ (z : List Msg). take i (map msgOf ms) ++ z)
+      (drop-cons (map msgOf ms) i (msgOf m) (rw (length-map ms msgOf) lt)
+      ∙ ap (λ (z : Msg). z ∷ drop (suc i) (map msgOf ms)) (getD-map msgOf ms i m (msgOf m) lt ∙ ap msgOf (sym at)))
+
+  -- what the pair has of the log up to and with that place
+  more : (a b : ℕ) → of (take (i + 1) (map msgOf ms)) a b ≡ of (take i (map msgOf ms)) a b ++ cond (goes a b (msgOf m)) (msgOf m ∷ []) []
+  unfolding of
+  more a b =
+      kept-by-more (goes a b) (map msgOf ms) i (msgOf m) (rw (length-map ms msgOf) lt)
+      ∙ ap (λ (z : Msg). of (take i (map msgOf ms)) a b ++ cond (goes a b z) (z ∷ []) []) (getD-map msgOf ms i m (msgOf m) lt ∙ ap msgOf (sym at))
+
+  pub passes-by : (a b : ℕ) → goes a b (msgOf m) ≡ false → of (take (i + 1) (map msgOf ms)) a b ≡ of (take i (map msgOf ms)) a b
+  passes-by a b t =
+      more a b ∙ ap (λ (z : Bool). of (take i (map msgOf ms)) a b ++ cond z (msgOf m ∷ []) []) t ∙ append-nil _
+
+  pub counts-one : (a b : ℕ) → goes a b (msgOf m) ≡ true → length (of (take (i + 1) (map msgOf ms)) a b) ≡ length (of (take i (map msgOf ms)) a b) + 1
+  counts-one a b t =
+      ap length (more a b ∙ ap (λ (z : Bool). of (take i (map msgOf ms)) a b ++ cond z (msgOf m ∷ []) []) t)
+      ∙ length-append (of (take i (map msgOf ms)) a b) (msgOf m ∷ [])
+
+  -- and it is the pair's oldest
+  pub found : (a b : ℕ) → of (take i (map msgOf ms)) a b ≡ [] → goes a b (msgOf m) ≡ true → Found (map msgOf ms) a b (Some i)
+  found a b none t =
+      (rw (length-map ms msgOf) lt, none, λ d. rw (getD-map msgOf ms i m d lt ∙ ap msgOf (sym at)) t)
+
+-- a place that was found
+module _ (ms : List Message) (i a b : ℕ) (f : Found (map msgOf ms) a b (Some i)) where
+  pub in-list : i < length ms
+  in-list = rw (sym (length-map ms msgOf)) (f .0)
+
+  pub of-pair : (m : Message) → m ≡ getD ms i m → goes a b (msgOf m) ≡ true
+  of-pair m at = ap (goes a b) (sym (getD-map msgOf ms i m (msgOf m) in-list ∙ ap msgOf (sym at))) ∙ f .2 (msgOf m)
+
+pub without : (ms : List Message) (i : ℕ) → map msgOf (removed ms i) ≡ take i (map msgOf ms) ++ drop (suc i) (map msgOf ms)
+without ms i = rw (take-map msgOf i ms, drop-map msgOf (suc i) ms) (map-append msgOf (take i ms) (drop (suc i) ms))
+
+pub whole : (ms : List Message) (i : ℕ) → length ms ≤ i → take i (map msgOf ms) ≡ map msgOf ms
+whole ms i le = take-all i (map msgOf ms) (rw (length-map ms msgOf) le)

@@ -1,0 +1,10 @@
+use Prim.Native.Nat.{_≤_}
+use mathlib.Core.Path.{_≡_}
+use lib.ListN.{length, take}
+use Rattle.lines.specs.Logs.{of}
+use Rattle.lines.specs.Held.{log}
+use Rattle.lines.proofs.party.methods.PartyLineIsLine.count.Given as given
+
+-- those of the pair so far
+abbrev pub Inv-loop-i : given.InvT-loop-i
+Inv-loop-i l = (l .count ≡ length (of (take (l .i) (log (l .self))) (l .sender) (l .receiver))) × (l .count ≤ l .i)

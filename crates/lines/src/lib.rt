@@ -1,0 +1,4 @@
+// The two kinds of line.
+mod party;
+
+pub use party::PartyLine;
