@@ -17,7 +17,7 @@ use Rattle.line.specs.declared.message.Message.{Message}
 use Rattle.line.specs.declared.fault.Misfit.{Misfit}
 use Rattle.line.specs.declared.refusal.Refusal.{Refusal}
 use Rattle.line.specs.Kinds.{number, kindOf}
-use Rattle.line.specs.Messages.{Msg, msg, misfit}
+use Rattle.line.specs.Messages.{Msg, msg, misfit, Fits}
 use Rattle.line.specs.View.{msgOf}
 use Rattle.line.proofs.Making.{sound}
 use Rattle.frame.specs.Frames.{word, encoded, size, wordAt, headed, bodied, decoded, RoundTrip, WritesBack}
@@ -33,25 +33,29 @@ reads bs k ge e fits =
     ∙ ap (bodied bs) e
     ∙ cond-false (ltb (length bs) (20 + wordAt bs 16)) _ _ (le-ltb (length bs) (20 + wordAt bs 16) fits)
 
-pub round : RoundTrip
-round m rest =
-    let x = msgOf m in
-    let t = x .text in
-    let bs = encoded x ++ rest in
-    let q = bounds (m .receiver) (m .kind) (m .page) (m .sender) (length t) (sound m) in
+-- a message that was written is read
+pub again : (m : Msg) (rest : List ℕ) → Fits m → decoded (encoded m ++ rest) ≡ Ok (m, size m)
+again m rest fit =
+    let t = m .text in
+    let bs = encoded m ++ rest in
+    let q = bounds (m .receiver) (m .kind) (m .page) (m .sender) (length t) fit in
     let r : wordAt bs 0 ≡ m .receiver = from-word (m .receiver) (omega (arith, q .0)) in
     let k : wordAt bs 4 ≡ number (m .kind) = from-word (number (m .kind)) (few (m .kind)) in
     let p : wordAt bs 8 ≡ m .page = from-word (m .page) (omega (arith, q .1)) in
     let s : wordAt bs 12 ≡ m .sender = from-word (m .sender) (omega (arith, q .2)) in
     let n : wordAt bs 16 ≡ length t = from-word (length t) (omega (arith, q .3)) in
     let long : length (t ++ rest) ≡ length t + length rest = length-append t rest in
-    let head = (λ i. headed (r i) (k i) (p i) (s i) (n i)) ∙ passes (m .receiver) (number (m .kind)) (m .page) (m .sender) (length t) (m .kind) (q .0) (of-number (m .kind)) (sound m) in
-    (
-      reads bs (m .kind) (omega arith) head (omega (arith, n))
-          ∙ (λ i. Ok (msg (s i) (r i) (p i) (m .kind) (take (n i) (t ++ rest)), 20 + n i))
-          ∙ ap (λ (z : List ℕ). Ok (msg (m .sender) (m .receiver) (m .page) (m .kind) z, 20 + length t)) (take-at t rest (length t) refl),
-      drop-at (encoded x) rest (size x) (omega arith),
-    )
+    let head = (λ i. headed (r i) (k i) (p i) (s i) (n i)) ∙ passes (m .receiver) (number (m .kind)) (m .page) (m .sender) (length t) (m .kind) (q .0) (of-number (m .kind)) fit in
+    reads bs (m .kind) (omega arith) head (omega (arith, n))
+    ∙ (λ i. Ok (msg (s i) (r i) (p i) (m .kind) (take (n i) (t ++ rest)), 20 + n i))
+    ∙ ap (λ (z : List ℕ). Ok (msg (m .sender) (m .receiver) (m .page) (m .kind) z, 20 + length t)) (take-at t rest (length t) refl)
+
+-- and what follows it is left over
+pub leaves : (m : Msg) (rest : List ℕ) → drop (size m) (encoded m ++ rest) ≡ rest
+leaves m rest = drop-at (encoded m) rest (size m) (omega arith)
+
+pub round : RoundTrip
+round m rest = (again (msgOf m) rest (sound m), leaves (msgOf m) rest)
 
 -- the bytes that are taken are the frame of what is read
 pub regains : (bs : List ℕ) (k : Kind)
@@ -102,11 +106,24 @@ bodied-ok bs (Ok k) p e =
     (k, refl, ltb-false _ _ t, same _ _ f))
     (cases-bool (ltb (length bs) (20 + wordAt bs 16)))
 
+opened : (bs : List ℕ) (p : Msg × ℕ) → decoded bs ≡ Ok p
+    → Whole bs (headed (wordAt bs 0) (wordAt bs 4) (wordAt bs 8) (wordAt bs 12) (wordAt bs 16)) p
+opened bs p e =
+    ⊎-elim
+    (λ (t : ltb (length bs) 20 ≡ true). absurd (refuses _ p (sym (cond-true (ltb (length bs) 20) _ _ t) ∙ e)))
+    (λ (t : ltb (length bs) 20 ≡ false). bodied-ok bs _ p (sym (cond-false (ltb (length bs) 20) _ _ t) ∙ e))
+    (cases-bool (ltb (length bs) 20))
+
 pub writes-back : WritesBack
 writes-back bs m n e =
-    ⊎-elim
-    (λ (t : ltb (length bs) 20 ≡ true). absurd (refuses _ (m, n) (sym (cond-true (ltb (length bs) 20) _ _ t) ∙ e)))
-    (λ (t : ltb (length bs) 20 ≡ false).
-    let w = bodied-ok bs _ (m, n) (sym (cond-false (ltb (length bs) 20) _ _ t) ∙ e) in
-    subst (λ (p : Msg × ℕ). encoded (p .0) ≡ take (p .1) bs) (w .3) (regains bs (w .0) (w .1) (w .2)))
-    (cases-bool (ltb (length bs) 20))
+    let w = opened bs (m, n) e in
+    subst (λ (p : Msg × ℕ). encoded (p .0) ≡ take (p .1) bs) (w .3) (regains bs (w .0) (w .1) (w .2))
+
+-- what is read is a message
+pub read-fits : (bs : List ℕ) (m : Msg) (n : ℕ) → decoded bs ≡ Ok (m, n) → Fits m
+read-fits bs m n e =
+    let w = opened bs (m, n) e in
+    let h = passed (wordAt bs 0) (wordAt bs 4) (wordAt bs 8) (wordAt bs 12) (wordAt bs 16) (w .0) (w .1) in
+    let long : length (take (wordAt bs 16) (drop 20 bs)) ≡ wordAt bs 16 =
+    length-take-le (wordAt bs 16) (drop 20 bs) (rw (length-drop 20 bs) (omega (arith, w .2))) in
+    subst (λ (p : Msg × ℕ). Fits (p .0)) (w .3) (ap (λ (j : ℕ). misfit (wordAt bs 0) (w .0) (wordAt bs 8) (wordAt bs 12) j) long ∙ h .1)

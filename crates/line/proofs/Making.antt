@@ -19,7 +19,7 @@ use Rattle.line.specs.declared.fault.Misfit.{Misfit}
 use Rattle.line.specs.declared.message.Message.{Message}
 use Rattle.line.specs.Kinds.{bears}
 use Rattle.line.specs.View.{msgOf}
-use Rattle.line.specs.Messages.{Msg, msg, misfit, unless, made}
+use Rattle.line.specs.Messages.{Msg, msg, misfit, Fits, unless, made}
 
 -- parts that fit, with the text laid at the front of the bytes
 pub fitting : (s r p : ℕ) (k : Kind) (t xs ys : List ℕ) (r′ p′ s′ : ℕ)
@@ -36,8 +36,8 @@ within m = rw (length-take (m .length) (m .text)) (omega arith)
 pub short : (m : Message) → length (msgOf m .text) ≤ 64
 short m = omega (arith, within m, m .«length_in»)
 
--- no part of a message misfits
-pub sound : (m : Message) → misfit (m .receiver) (m .kind) (m .page) (m .sender) (length (msgOf m .text)) ≡ None
+-- the parts of a message make one
+pub sound : (m : Message) → Fits (msgOf m)
 sound m =
     cond-false (leb 8 (m .receiver)) _ _ (lt-leb 8 (m .receiver) (m .«receiver_in»))
     ∙ cond-false (leb 16 (m .page)) _ _ (lt-leb 16 (m .page) (m .«page_in»))

@@ -1,5 +1,6 @@
 -- What a message says, and which parts make one.
 use Prim.Native.Nat.{ℕ}
+use mathlib.Core.Path.{_≡_}
 use mathlib.Core.Bool.{Bool, not, cond, _&&_, _||_}
 use mathlib.Core.List.{List}
 use lib.Dec.{eqb, ltb, leb}
@@ -33,6 +34,10 @@ misfit r k p s n =
     (cond (leb 16 p) (Some Page)
     (cond (leb 8 s || eqb s r) (Some Sender)
     (cond (ltb 64 n || (ltb 0 n && not (bears k))) (Some Length) None)))
+
+-- the parts of m make a message
+abbrev pub Fits : Msg → Type 0
+Fits m = misfit (m .receiver) (m .kind) (m .page) (m .sender) (length (m .text)) ≡ None
 
 abbrev pub unless : Option Misfit → Msg → Result Msg Refusal
 unless None m = Ok m

@@ -1,3 +1,5 @@
 pub mod Logs
 pub mod Calls
 pub mod Store
+pub mod Framing
+pub mod Scan

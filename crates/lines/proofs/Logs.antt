@@ -34,7 +34,7 @@ pub of-append : (xs ys : List Msg) (a b : ℕ) → of (xs ++ ys) a b ≡ of xs a
 unfolding of
 of-append xs ys a b = kept-by-append (goes a b) xs ys
 
-of-one : (m : Msg) (a b : ℕ) → of (m ∷ []) a b ≡ cond (goes a b m) (m ∷ []) []
+pub of-one : (m : Msg) (a b : ℕ) → of (m ∷ []) a b ≡ cond (goes a b m) (m ∷ []) []
 unfolding of
 of-one m a b = refl
 

@@ -1,10 +1,10 @@
 // What a party line does.
 ghost use mathlib.Core.Path.{_≡_};
 ghost use Rattle.std.specs.Vec.{made};
-ghost use Rattle.line.specs.View.{msgOf};
 ghost use Rattle.line.specs.Lists.{empty, paired};
-ghost use Rattle.lines.specs.Logs.{goes, of, Found};
+ghost use Rattle.lines.specs.Logs.{of, Found};
 ghost use Rattle.lines.specs.Held.{log};
+use crate::between::is_between;
 use crate::party::PartyLine;
 use line::Line;
 use line::LineFault;
@@ -12,13 +12,6 @@ use line::Message;
 use line::is_pair;
 use std::alloc::AllocError;
 use std::alloc::Global;
-
-/// Whether the message is of the pair.
-fn is_between(message: &Message, sender: u8, receiver: u8) -> bool
-    ensures { λ r. ⌜ r ≡ goes sender receiver (msgOf (now (message .entry))) ⌝ }
-{
-    sender == message.sender() && receiver == message.receiver()
-}
 
 impl PartyLine {
     /// An empty party line, with the memory for all that it will hold.

@@ -1,0 +1,68 @@
+use borrow.Author.Needs.{needs}
+use native.Mathlib.Omega.{arith}
+use Prim.Native.Nat.{ℕ, suc, _+_}
+use mathlib.Core.Path.{_≡_, refl, sym, ap, _∙_}
+use mathlib.Core.List.{List}
+use lib.ListN.{take, drop}
+use Rattle.line.specs.Messages.{Msg}
+use Rattle.line.specs.Lists.{Lists}
+use Rattle.lines.specs.Kept.{log}
+use Rattle.lines.specs.Logs.{of}
+use Rattle.lines.proofs.Logs.{of-none}
+use Rattle.lines.proofs.Framing.{Holds, holds-as, short}
+use Rattle.lines.proofs.Scan.{none-read, within, read-ok, takes, about, further, passes-by, all-read}
+use Rattle.lines.proofs.framed.FrameLine.find.Needs as need
+
+pub loop-i-holds : need.loop-i-holds
+loop-i-holds c =
+    (none-read (log (c .args .self .now)), ap (λ (w : Lists). w (c .args .sender) (c .args .receiver)) of-none)
+
+pub part-read-count : need.part-read-count
+part-read-count c =
+    within _ _ _ (holds-as _ _ _ (c .as-slice-bytes .ensures .value) (c .args .self .now .whole)) (c .loop-i .-i) _ (c .loop-i .inv .0)
+
+pub part-read-start : need.part-read-start
+part-read-start c =
+    within _ _ _ (holds-as _ _ _ (c .as-slice-bytes .ensures .value) (c .args .self .now .whole)) (c .loop-i .-i) _ (c .loop-i .inv .0)
+
+pub unwrap-size-requires : need.unwrap-size-requires
+unwrap-size-requires c κs =
+    read-ok _ _ _ (holds-as _ _ _ (c .as-slice-bytes .ensures .value) (c .args .self .now .whole)) (c .loop-i .-i) _ (c .loop-i .inv .0)
+    (c .loop-i-test .taken) _ (c .read .ensures .exact)
+
+pub returns-then-is-between : need.returns-then-is-between
+returns-then-is-between c =
+    let h = holds-as _ _ _ (c .as-slice-bytes .ensures .value) (c .args .self .now .whole) in
+    let i = c .loop-i .-i in
+    record {
+      front = take i (log (c .args .self .now));
+      back = drop (suc i) (log (c .args .self .now));
+      about = about _ _ _ h i _ (c .loop-i .inv .0) (c .loop-i-test .taken) _ (c .read .ensures .exact) (c .unwrap-size .result) (c .unwrap-size .ensures);
+      none = c .loop-i .inv .1;
+      here = sym (c .is-between .ensures) ∙ c .if-is-between .taken;
+      from = c .loop-i .inv .0;
+      takes = takes _ _ _ h i _ (c .loop-i .inv .0) (c .loop-i-test .taken) _ (c .read .ensures .exact) (c .unwrap-size .result) (c .unwrap-size .ensures);
+    }
+
+pub add-at : need.add-at
+add-at c =
+    let h = holds-as _ _ _ (c .as-slice-bytes .ensures .value) (c .args .self .now .whole) in
+    let f = further _ _ _ h (c .loop-i .-i) _ (c .loop-i .inv .0) (c .loop-i-test .taken) _ (c .read .ensures .exact) (c .unwrap-size .result) (c .unwrap-size .ensures) in
+    let w = within _ _ _ h (c .loop-i .-i + 1) _ f in
+    let s = short _ _ _ h in
+    let few = c .args .self .now .few in
+    search needs
+
+pub loop-i-again : need.loop-i-again
+loop-i-again c =
+    let h = holds-as _ _ _ (c .as-slice-bytes .ensures .value) (c .args .self .now .whole) in (
+      further _ _ _ h (c .loop-i .-i) _ (c .loop-i .inv .0) (c .loop-i-test .taken) _ (c .read .ensures .exact) (c .unwrap-size .result) (c .unwrap-size .ensures),
+      passes-by _ _ _ h (c .loop-i .-i) _ (c .loop-i .inv .0) (c .loop-i-test .taken) _ (c .read .ensures .exact) (c .unwrap-size .result) (c .unwrap-size .ensures)
+          (c .args .sender) (c .args .receiver) (sym (c .is-between .ensures) ∙ c .if-is-between .left)
+          ∙ c .loop-i .inv .1,
+    )
+
+pub returns : need.returns
+returns c =
+    ap (λ (z : List Msg). of z (c .args .sender) (c .args .receiver)) (sym (all-read _ _ _ (holds-as _ _ _ (c .as-slice-bytes .ensures .value) (c .args .self .now .whole)) (c .loop-i .-i) (c .loop-i-test .left)))
+    ∙ c .loop-i .inv .1
