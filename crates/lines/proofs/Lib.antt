@@ -3,3 +3,5 @@ pub mod Calls
 pub mod Store
 pub mod Framing
 pub mod Scan
+pub mod Buffer
+pub mod Cut

@@ -7,11 +7,17 @@ ghost use Rattle.lines.specs.Kept.{log};
 ghost use Rattle.lines.specs.Slots.{Found};
 use crate::between::is_between;
 use crate::framed::FrameLine;
+use line::Line;
+use line::LineFault;
 use line::Message;
+use line::is_pair;
 use std::alloc::AllocError;
 use std::alloc::Global;
 
-/// The bytes of 256 frames with the longest text.
+/// The bytes of a frame with the longest text.
+const LONGEST: usize = 84;
+
+/// The bytes of 256 such frames.
 const BYTES: usize = 21504;
 
 /// A message on the line, and the place and size of its frame.
@@ -45,5 +51,75 @@ impl FrameLine {
             at += size;
         }
         None
+    }
+}
+
+pub impl Line for FrameLine as FrameLineIsLine {
+    const CAPACITY: usize = 256;
+
+    ghost room = { 256 };
+
+    ghost waiting = { λ f. of (log f) };
+
+    fn places() -> usize {
+        Self::CAPACITY
+    }
+
+    fn post(&mut self, message: Message) -> Result<(), LineFault> {
+        if self.count >= Self::CAPACITY {
+            return Err(LineFault::NoPlace(message.sender(), message.receiver()));
+        }
+        let mut frame = [0; LONGEST];
+        let size = frame::write(&message, &mut frame).unwrap();
+        self.frames.extend_from_slice(&frame[0..size]).unwrap();
+        self.count += 1;
+        Ok(())
+    }
+
+    fn count(&self, sender: u8, receiver: u8) -> Result<usize, LineFault> {
+        if !is_pair(sender, receiver) {
+            return Err(LineFault::Pair(sender, receiver));
+        }
+        let bytes = self.frames.as_slice();
+        let mut at = 0;
+        let mut count = 0;
+        for _i in 0..self.count {
+            let (message, size) = frame::read(&bytes[at..]).unwrap();
+            if is_between(&message, sender, receiver) {
+                count += 1;
+            }
+            at += size;
+        }
+        Ok(count)
+    }
+
+    fn total(&self) -> usize {
+        self.count
+    }
+
+    fn peek(&self, sender: u8, receiver: u8) -> Result<Message, LineFault> {
+        if !is_pair(sender, receiver) {
+            return Err(LineFault::Pair(sender, receiver));
+        }
+        match self.find(sender, receiver) {
+            Some(slot) => Ok(slot.message),
+            None => Err(LineFault::Empty(sender, receiver)),
+        }
+    }
+
+    fn drop_oldest(&mut self, sender: u8, receiver: u8) -> Result<(), LineFault> {
+        if !is_pair(sender, receiver) {
+            return Err(LineFault::Pair(sender, receiver));
+        }
+        match self.find(sender, receiver) {
+            Some(slot) => {
+                let left = self.frames.len() - slot.size;
+                self.frames.copy_within(slot.at + slot.size.., slot.at);
+                self.frames.truncate(left);
+                self.count -= 1;
+                Ok(())
+            }
+            None => Err(LineFault::Empty(sender, receiver)),
+        }
     }
 }
