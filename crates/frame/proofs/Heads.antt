@@ -44,7 +44,6 @@ few AckWithText = omega arith
 few Flush = omega arith
 few FlushWithText = omega arith
 
-
 pub number-of : (n : ℕ) (k : Kind) → kindOf n ≡ Some k → number k ≡ n
 number-of n k e = grind (arith, tells)
 

@@ -19,7 +19,6 @@ use Rattle.frame.specs.Frames.{headed}
 use Rattle.frame.proofs.Heads.{passed}
 
 module _ (r kn p s n : ℕ) (k : Kind) (text : List ℕ) (head : Ok k ≡ headed r kn p s n) (long : length text ≡ n) where
-
   makes : made s r p k text ≡ Ok (msg s r p k text)
   makes =
       ap (λ (o : Option Misfit). unless o (msg s r p k text))

@@ -19,7 +19,6 @@ use Rattle.frame.proofs.Round.{reads, regains}
 module _ (bs text : List ℕ) (r kn p s n : ℕ) (k : Kind)
     (er : r ≡ wordAt bs 0) (ek : kn ≡ wordAt bs 4) (ep : p ≡ wordAt bs 8) (es : s ≡ wordAt bs 12) (en : n ≡ wordAt bs 16)
     (head : Ok k ≡ headed r kn p s n) (fits : 20 + n ≤ length bs) (et : text ≡ take n (drop 20 bs)) where
-
   heads : headed (wordAt bs 0) (wordAt bs 4) (wordAt bs 8) (wordAt bs 12) (wordAt bs 16) ≡ Ok k
   heads = sym (head ∙ (λ i. headed (er i) (ek i) (ep i) (es i) (en i)))
 

@@ -41,7 +41,6 @@ laid xs ws ys t zs k m n ey lw ez ek em en fits =
 -- a frame of n bytes laid at the start of a buffer: what is answered, and that it is read again
 module _ (m : Message) (out after : List ℕ) (n : ℕ) (en : n ≡ size (msgOf m)) (fits : n ≤ length out)
     (laid-out : after ≡ encoded (msgOf m) ++ drop n out) where
-
   frames : after ≡ encoded (msgOf m) ++ drop (size (msgOf m)) out
   frames = laid-out ∙ ap (λ (j : ℕ). encoded (msgOf m) ++ drop j out) en
 

@@ -1,7 +1,7 @@
 // Reading and writing one frame.
 ghost use mathlib.Core.Path.{_≡_};
-ghost use Prim.Native.Nat.{_<_};
-ghost use lib.ListN.{take};
+ghost use Prim.Native.Nat.{_<_, _≤_};
+ghost use lib.ListN.{length, take};
 ghost use Rattle.std.specs.Vec.{made};
 ghost use Rattle.std.specs.declared.result.Result.the-variants.{Ok};
 ghost use Rattle.std.specs.Results.{mapped, Cases};
@@ -19,7 +19,13 @@ use line::misfit;
 pub const HEADER: usize = 20;
 
 /// The kind that five words name, where they make a message.
-pub fn check_words(receiver: u32, kind: u32, page: u32, sender: u32, length: usize) -> Result<Kind, Misfit>
+pub fn check_words(
+    receiver: u32,
+    kind: u32,
+    page: u32,
+    sender: u32,
+    length: usize,
+) -> Result<Kind, Misfit>
     ensures value { λ r. ⌜ r ≡ headed receiver kind page sender length ⌝ }
     ensures small { λ r. ⌜ Cases r (λ _. (receiver < 8) × (page < 16) × (sender < 8)) (λ _. Unit {0}) ⌝ }
 {
@@ -38,14 +44,30 @@ pub fn check_words(receiver: u32, kind: u32, page: u32, sender: u32, length: usi
 /// The message that `bytes` begin with, and how many bytes its frame takes.
 pub fn read(bytes: &[u8]) -> Result<(Message, usize), FrameFault>
     ensures exact { λ r. ⌜ mapped seen told r ≡ decoded (now (bytes .entry)) ⌝ }
+    ensures taken { λ r. ⌜ made r (λ p. (20 ≤ p .1) × (p .1 ≤ length (now (bytes .entry)))) ⌝ }
     ensures back { λ r. ⌜ made r (λ p. encoded (msgOf (p .0)) ≡ take (p .1) (now (bytes .entry))) ⌝ }
 {
     let [
-        r0, r1, r2, r3,
-        k0, k1, k2, k3,
-        p0, p1, p2, p3,
-        s0, s1, s2, s3,
-        n0, n1, n2, n3,
+        r0,
+        r1,
+        r2,
+        r3,
+        k0,
+        k1,
+        k2,
+        k3,
+        p0,
+        p1,
+        p2,
+        p3,
+        s0,
+        s1,
+        s2,
+        s3,
+        n0,
+        n1,
+        n2,
+        n3,
         rest @ ..,
     ] = bytes
     else {
@@ -81,7 +103,26 @@ pub fn write(message: &Message, out: &mut [u8]) -> Result<usize, FrameFault>
     let [s0, s1, s2, s3] = u32::from(message.sender()).to_be_bytes();
     let [n0, n1, n2, n3] = (text.len() as u32).to_be_bytes();
     let header = [
-        r0, r1, r2, r3, k0, k1, k2, k3, p0, p1, p2, p3, s0, s1, s2, s3, n0, n1, n2, n3,
+        r0,
+        r1,
+        r2,
+        r3,
+        k0,
+        k1,
+        k2,
+        k3,
+        p0,
+        p1,
+        p2,
+        p3,
+        s0,
+        s1,
+        s2,
+        s3,
+        n0,
+        n1,
+        n2,
+        n3,
     ];
     out[0..HEADER].copy_from_slice(&header);
     out[HEADER..size].copy_from_slice(text);

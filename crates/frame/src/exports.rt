@@ -46,7 +46,13 @@ fn offset(place: Place) -> usize
 }
 
 /// The message of these numbers and this text.
-pub fn compose(receiver: u32, kind: u32, page: u32, sender: u32, text: &[u8]) -> Result<Message, FrameFault>
+pub fn compose(
+    receiver: u32,
+    kind: u32,
+    page: u32,
+    sender: u32,
+    text: &[u8],
+) -> Result<Message, FrameFault>
     ensures { λ r. ⌜ mapped msgOf told r ≡ composed receiver kind page sender (now (text .entry)) ⌝ }
 {
     let kind = check_words(receiver, kind, page, sender, text.len())?;
@@ -55,7 +61,14 @@ pub fn compose(receiver: u32, kind: u32, page: u32, sender: u32, text: &[u8]) ->
 }
 
 /// Writes the frame of these numbers and this text into `out`.
-fn write_parts(receiver: u32, kind: u32, page: u32, sender: u32, text: &[u8], out: &mut [u8]) -> Result<usize, FrameFault>
+fn write_parts(
+    receiver: u32,
+    kind: u32,
+    page: u32,
+    sender: u32,
+    text: &[u8],
+    out: &mut [u8],
+) -> Result<usize, FrameFault>
     ensures { λ r. ⌜ (writtenAs (mapped (λ n. n) told r), now (out .exit)) ≡ sent (composed receiver kind page sender (now (text .entry))) (now (out .entry)) ⌝ }
 {
     let message = compose(receiver, kind, page, sender, text)?;

@@ -5,5 +5,4 @@ ghost use Rattle.frame.specs.Frames.{RoundTrip, WritesBack};
 pub fn round_trip()
     ensures there { λ _. ⌜ RoundTrip ⌝ }
     ensures back { λ _. ⌜ WritesBack ⌝ }
-{
-}
+{}

@@ -29,7 +29,6 @@ Wrote = Result ℕ Refusal × List ℕ
 -- a frame was written into the buffer out, and n told as its size
 module _ (m : Msg) (out after : List ℕ) (r : Result ℕ FrameFault) (n : ℕ)
     (wrote : _≡_ {A = Wrote} (mapped (λ j. j) told r, after) (written m out)) (was : r ≡ Ok n) where
-
   told-size : mapped {T = ℕ} {U = ℕ} (λ j. j) told r ≡ Ok n
   told-size = ap (λ (z : Result ℕ FrameFault). mapped {T = ℕ} {U = ℕ} (λ j. j) told z) was
 

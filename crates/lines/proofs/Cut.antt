@@ -27,7 +27,6 @@ all-back (x ∷ xs) ys h = all-back xs ys (h .1)
 -- the frame of m lies at this place, behind those of front
 module _ (n : ℕ) (bs : List ℕ) (log : List Msg) (h : Holds n bs log) (front : List Msg) (m : Msg) (back : List Msg)
     (about : log ≡ front ++ m ∷ back) (at sz : ℕ) (from : at ≡ length (framed front)) (takes : sz ≡ size m) where
-
   split : bs ≡ framed front ++ (encoded m ++ framed back)
   split =
       h .bytes ∙ ap framed about ∙ framed-append front (m ∷ back)

@@ -105,7 +105,6 @@ total-of (m ∷ xs) h = omega (arith, total-of xs (h .1), total-cons m xs (h .0)
 
 -- a log in which the pair's oldest message is m
 module _ (front : List Msg) (m : Msg) (back : List Msg) (a b : ℕ) (none : of front a b ≡ []) (here : goes a b m ≡ true) where
-
   pub oldest-of : of (front ++ m ∷ back) a b ≡ m ∷ of back a b
   oldest-of =
       of-append front (m ∷ back) a b

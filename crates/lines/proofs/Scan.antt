@@ -41,7 +41,6 @@ one m = omega (arith, length-append (m .text) [])
 
 -- i frames lie before the byte at
 module _ (n : ℕ) (bs : List ℕ) (log : List Msg) (h : Holds n bs log) (i at : ℕ) (before : at ≡ length (framed (take i log))) where
-
   split : framed (take i log) ++ framed (drop i log) ≡ bs
   split = sym (framed-append (take i log) (drop i log)) ∙ ap framed (take-append-drop i log) ∙ sym (h .bytes)
 
@@ -53,7 +52,6 @@ module _ (n : ℕ) (bs : List ℕ) (log : List Msg) (h : Holds n bs log) (i at :
 
   -- and there is one more, which was read
   module _ (lt : i < n) (r : Result (Message × ℕ) FrameFault) (got : mapped seen told r ≡ decoded (take (length bs - at) (drop at bs))) where
-
     inside : i < length log
     inside = omega (arith, h .many)
 

@@ -30,7 +30,6 @@ all-proper (m ∷ ms) = (proper m, all-proper ms)
 
 -- a place of the list: m stands there
 module _ (ms : List Message) (i : ℕ) (m : Message) (lt : i < length ms) (at : m ≡ getD ms i m) where
-
   -- the log about that place
   pub about : map msgOf ms ≡ take i (map msgOf ms) ++ msgOf m ∷ drop (suc i) (map msgOf ms)
   about =

@@ -30,7 +30,13 @@ pub fn misfit(receiver: u32, kind: Kind, page: u32, sender: u32, length: usize) 
 
 impl Message {
     /// The message of these parts, or the first part that fits none.
-    pub fn new(sender: u8, receiver: u8, page: u8, kind: Kind, text: &[u8]) -> Result<Message, Misfit>
+    pub fn new(
+        sender: u8,
+        receiver: u8,
+        page: u8,
+        kind: Kind,
+        text: &[u8],
+    ) -> Result<Message, Misfit>
         ensures { λ r. ⌜ mapped msgOf misfits r ≡ made sender receiver page kind (now (text .entry)) ⌝ }
     {
         let length = text.len();

@@ -2,7 +2,10 @@
 ghost use mathlib.Core.Path.{_≡_};
 ghost use Rattle.std.specs.Vec.{made};
 ghost use Rattle.line.specs.Lists.{empty, paired};
+ghost use Prim.Native.Nat.{_≤_};
+ghost use lib.ListN.{length};
 ghost use Rattle.lines.specs.Logs.{of};
+ghost use Rattle.lines.specs.Framed.{framed};
 ghost use Rattle.lines.specs.Kept.{log};
 ghost use Rattle.lines.specs.Slots.{Found};
 use crate::between::is_between;
@@ -35,6 +38,14 @@ impl FrameLine {
     {
         let frames = Vec::with_capacity(heap, BYTES)?;
         Ok(FrameLine { frames, count: 0 })
+    }
+
+    /// The frames as they lie, in order of posting.
+    pub fn as_bytes(&self) -> &[u8]
+        ensures exact { λ r. ⌜ now r ≡ framed (log (now (self .entry))) ⌝ }
+        ensures within { λ r. ⌜ length (now r) ≤ 21504 ⌝ }
+    {
+        self.frames.as_slice()
     }
 
     /// The pair's oldest message, and where its frame lies.

@@ -23,6 +23,7 @@ returns c =
       exact = took bs _ _ _ _ _ _ (c .in-Continue-kind .kind)
           (c .from-be-bytes-receiver .ensures) (c .from-be-bytes-kind .ensures) (c .from-be-bytes-page .ensures) (c .from-be-bytes-sender .ensures) (c .from-be-bytes-length .ensures)
           (c .in-Continue-kind .ensures tt .value) fits (c .split-at .ensures .front ∙ ap (take (c .from-be-bytes-length .result)) (take-rest bs 20)) (c .in-Continue-message .message) (c .in-Continue-message .ensures tt);
+      taken = (omega arith, fits);
       back = gives-back bs _ _ _ _ _ _ (c .in-Continue-kind .kind)
           (c .from-be-bytes-receiver .ensures) (c .from-be-bytes-kind .ensures) (c .from-be-bytes-page .ensures) (c .from-be-bytes-sender .ensures) (c .from-be-bytes-length .ensures)
           (c .in-Continue-kind .ensures tt .value) fits (c .split-at .ensures .front ∙ ap (take (c .from-be-bytes-length .result)) (take-rest bs 20)) (c .in-Continue-message .message) (c .in-Continue-message .ensures tt);

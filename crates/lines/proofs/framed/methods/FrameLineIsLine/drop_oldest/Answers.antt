@@ -39,8 +39,7 @@ ghost-self c =
     let p = c .in-Some .ensures tt in
     let lies = ends _ _ _ (holds _ _ (c .args .self .now .whole)) (p .front) _ (p .back) (p .about) _ _ (p .from) (p .takes) in
     let h = cut _ _ _ (holds _ _ (c .args .self .now .whole)) (p .front) _ (p .back) (p .about) _ _ (p .from) (p .takes)
-    (c .args .self .now .frames .len) _ _ _ (c .args .self .now .frames .ok .0) (omega (arith, c .len .ensures, c .args .self .now .frames .ok .0, lies)) (c .copy-within .ensures .items) (c .truncate .ensures .items) in
-    (
+    (c .args .self .now .frames .len) _ _ _ (c .args .self .now .frames .ok .0) (omega (arith, c .len .ensures, c .args .self .now .frames .ok .0, lies)) (c .copy-within .ensures .items) (c .truncate .ensures .items) in (
       omega (arith, c .args .self .now .few),
       (
         omega (arith, c .args .self .now .reserved, c .copy-within .ensures .capacity, c .truncate .ensures .capacity),

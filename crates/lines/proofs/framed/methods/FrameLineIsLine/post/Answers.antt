@@ -39,8 +39,7 @@ pub ghost-self : need.ghost-self
 ghost-self c =
     let h = holds _ _ (c .args .self .now .whole) in
     let m = msgOf (c .args .message) in
-    let items = c .extend-from-slice .ensures .items ∙ cond-true (isOk (c .extend-from-slice .result)) _ _ (ap isOk (c .unwrap .ensures)) in
-    (
+    let items = c .extend-from-slice .ensures .items ∙ cond-true (isOk (c .extend-from-slice .result)) _ _ (ap isOk (c .unwrap .ensures)) in (
       omega (arith, c .if-self-ge-CAPACITY .left),
       (
         omega (arith, c .extend-from-slice .ensures .capacity, c .args .self .now .reserved),
