@@ -57,6 +57,10 @@ abbrev pub posting : ℕ → Msg → Lists → Change
 posting capacity m w =
     cond (ltb (total w) capacity) (Ok tt, posted m w) (Err (refused 16 (Pair (m .sender) (m .receiver))), w)
 
+-- PAIR where there is no such pair
+abbrev pub pairing : ℕ → ℕ → Result (Unit {0}) Refusal
+pairing s r = cond (pair s r) (Ok tt) (Err (refused 14 (Pair s r)))
+
 -- count: PAIR where there is no such pair
 abbrev pub counting : ℕ → ℕ → Lists → Result ℕ Refusal
 counting s r w = cond (pair s r) (Ok (length (w s r))) (Err (refused 14 (Pair s r)))

@@ -7,7 +7,7 @@ ghost use Rattle.std.specs.declared.result.Result.the-variants.{Ok};
 ghost use Rattle.std.specs.Results.{mapped};
 ghost use Rattle.line.specs.Refusals.{told};
 ghost use Rattle.line.specs.View.{msgOf};
-ghost use Rattle.line.specs.Lists.{Lists, pair, paired, total as sum, posting, counting, peeking, dropping, postings};
+ghost use Rattle.line.specs.Lists.{Lists, pairing, paired, total as sum, posting, counting, peeking, dropping, postings};
 
 mod fault;
 mod kind;
@@ -81,11 +81,15 @@ pub fn capacity<L: Line>() -> usize
     if told == places { told } else { places }
 }
 
-/// Whether these are the numbers of two different stations.
-pub fn is_pair(sender: u8, receiver: u8) -> bool
-    ensures { λ r. ⌜ r ≡ pair sender receiver ⌝ }
+/// PAIR unless these are the numbers of two different stations.
+pub fn check_pair(sender: u8, receiver: u8) -> Result<(), LineFault>
+    ensures { λ r. ⌜ mapped (λ x. x) told r ≡ pairing sender receiver ⌝ }
 {
-    sender < 8 && receiver < 8 && sender != receiver
+    if sender < 8 && receiver < 8 && sender != receiver {
+        Ok(())
+    } else {
+        Err(LineFault::Pair(sender, receiver))
+    }
 }
 
 /// Posts messages one after another, up to the first that is refused: none is while enough places are free.

@@ -4,28 +4,31 @@ use native.Mathlib.Omega.{arith}
 use mathlib.Core.Path.{_≡_, refl, sym, ap, subst, _∙_}
 use mathlib.Core.Bool.{Bool, true, false, cond}
 use mathlib.Core.List.{List, [], _∷_, _++_}
+use mathlib.Core.Logic.{⊎-elim}
 use lib.Dec.{ltb}
+use Rattle.std.specs.Results.{isOk}
 use lib.ListN.{length}
 use Rattle.std.specs.shelf.Lists.{All}
 use Rattle.std.proofs.shelf.Elements.{all-append, all-push}
-use Rattle.std.proofs.shelf.Tests.{cond-true, cond-false, lt-ltb, le-ltb}
+use Rattle.std.proofs.shelf.Tests.{cond-true, cond-false, cases-bool, lt-ltb, le-ltb}
 use Rattle.std.specs.declared.result.Result.{Result}
 use Rattle.std.specs.declared.result.Result.the-variants.{Ok, Err}
 use Rattle.line.specs.declared.refusal.Place.the-variants.{Pair}
 use Rattle.line.specs.declared.refusal.Refusal.{Refusal}
 use Rattle.line.specs.Refusals.{refused}
 use Rattle.line.specs.Messages.{Msg}
-use Rattle.line.specs.Lists.{Lists, pair, paired, total, posted, taken, Change, posting, counting, oldest, peeking, taking, dropping}
+use Rattle.line.specs.Lists.{Lists, pair, paired, total, posted, taken, Change, pairing, posting, counting, oldest, peeking, taking, dropping}
 use Rattle.lines.specs.Logs.{goes, of}
 use Rattle.lines.proofs.Logs.{Proper, paired-of, posted-of, total-of, oldest-of, taken-of}
 
--- what is no pair
-module _ (a b : ℕ) (w : Lists) (bad : pair a b ≡ false) where
-  pub peeks-no-pair : Err (refused 14 (Pair a b)) ≡ peeking a b w
-  peeks-no-pair = sym (cond-false (pair a b) _ _ bad)
-
-  pub drops-no-pair : _≡_ {A = Change} (Err (refused 14 (Pair a b)), w) (dropping a b w)
-  drops-no-pair = ap (taking a b w) peeks-no-pair
+-- the two numbers were found to be a pair
+pub is-pair : (a b : ℕ) → Ok tt ≡ pairing a b → pair a b ≡ true
+is-pair a b e =
+    ⊎-elim
+    (λ (t : pair a b ≡ true). t)
+    (λ (t : pair a b ≡ false).
+    let z : _≡_ {A = ℕ} 0 1 = ap (λ (r : Result (Unit {0}) Refusal). cond (isOk r) 0 1) (e ∙ cond-false (pair a b) _ _ t) in absurd (omega arith))
+    (cases-bool (pair a b))
 
 -- a log of messages between stations
 module _ (xs : List Msg) (proper : All Proper xs) where
@@ -59,9 +62,6 @@ module _ (xs : List Msg) (proper : All Proper xs) where
 
     pub peeks-none : of xs a b ≡ [] → Err (refused 15 (Pair a b)) ≡ peeking a b (paired (of xs))
     peeks-none e = peeks-at [] e
-
-    pub drops-none : of xs a b ≡ [] → _≡_ {A = Change} (Err (refused 15 (Pair a b)), paired (of xs)) (dropping a b (paired (of xs)))
-    drops-none e = ap (taking a b (paired (of xs))) (peeks-none e)
 
     -- m is the pair's oldest message
     module _ (front : List Msg) (m : Msg) (back : List Msg) (e : xs ≡ front ++ m ∷ back) (none : of front a b ≡ []) (here : goes a b m ≡ true) where

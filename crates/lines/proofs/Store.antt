@@ -11,12 +11,11 @@ use Rattle.std.specs.Holes.{removed}
 use Rattle.std.proofs.shelf.Lists.{map-append, take-append-drop, take-map, drop-map, getD-map, length-map, length-append, take-all}
 use Rattle.std.proofs.shelf.Elements.{kept-by-more}
 use Rattle.std.proofs.shelf.Tests.{lt-ltb, and-from, ne-eqb, not-from-false}
-use Rattle.std.specs.declared.option.Option.the-variants.{Some}
 use lib.Seq.{drop-cons}
 use Rattle.line.specs.declared.message.Message.{Message}
 use Rattle.line.specs.Messages.{Msg}
 use Rattle.line.specs.View.{msgOf}
-use Rattle.lines.specs.Logs.{goes, of, Found}
+use Rattle.lines.specs.Logs.{goes, of, First}
 use Rattle.lines.proofs.Logs.{Proper}
 
 pub proper : (m : Message) → Proper (msgOf m)
@@ -27,6 +26,10 @@ proper m =
 pub all-proper : (ms : List Message) → All Proper (map msgOf ms)
 all-proper [] = tt
 all-proper (m ∷ ms) = (proper m, all-proper ms)
+
+-- the same list under another name
+pub in-list-as : (xs ms : List Message) (i : ℕ) (m : Message) → xs ≡ ms → m ≡ getD xs i m → m ≡ getD ms i m
+in-list-as xs ms i m e at = at ∙ ap (λ (z : List Message). getD z i m) e
 
 -- a place of the list: m stands there
 module _ (ms : List Message) (i : ℕ) (m : Message) (lt : i < length ms) (at : m ≡ getD ms i m) where
@@ -55,12 +58,12 @@ module _ (ms : List Message) (i : ℕ) (m : Message) (lt : i < length ms) (at : 
       ∙ length-append (of (take i (map msgOf ms)) a b) (msgOf m ∷ [])
 
   -- and it is the pair's oldest
-  pub found : (a b : ℕ) → of (take i (map msgOf ms)) a b ≡ [] → goes a b (msgOf m) ≡ true → Found (map msgOf ms) a b (Some i)
+  pub found : (a b : ℕ) → of (take i (map msgOf ms)) a b ≡ [] → goes a b (msgOf m) ≡ true → First (map msgOf ms) a b i
   found a b none t =
       (rw (length-map ms msgOf) lt, none, λ d. rw (getD-map msgOf ms i m d lt ∙ ap msgOf (sym at)) t)
 
 -- a place that was found
-module _ (ms : List Message) (i a b : ℕ) (f : Found (map msgOf ms) a b (Some i)) where
+module _ (ms : List Message) (i a b : ℕ) (f : First (map msgOf ms) a b i) where
   pub in-list : i < length ms
   in-list = rw (sym (length-map ms msgOf)) (f .0)
 

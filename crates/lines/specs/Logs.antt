@@ -5,11 +5,13 @@ use mathlib.Core.Bool.{Bool, true, _&&_}
 use mathlib.Core.List.{List, []}
 use lib.Dec.{eqb}
 use lib.ListN.{length, getD, take}
-use Rattle.std.specs.declared.option.Option.{Option}
-use Rattle.std.specs.declared.option.Option.the-variants.{Some, None}
+use Rattle.std.specs.declared.result.Result.{Result}
+use Rattle.std.specs.declared.result.Result.the-variants.{Ok, Err}
 use Rattle.std.specs.shelf.Lists.{kept-by}
+use Rattle.line.specs.declared.fault.LineFault.{LineFault}
+use Rattle.line.specs.Refusals.{told}
 use Rattle.line.specs.Messages.{Msg}
-use Rattle.line.specs.Lists.{Lists}
+use Rattle.line.specs.Lists.{Lists, pair, paired, peeking}
 
 -- whether m is of the pair
 abbrev pub goes : ℕ → ℕ → Msg → Bool
@@ -20,6 +22,10 @@ unfoldable pub of : List Msg → Lists
 of log a b = kept-by (goes a b) log
 
 -- the place of the pair's oldest message in the log
-abbrev pub Found : List Msg → ℕ → ℕ → Option ℕ → Type 0
-Found log a b None = of log a b ≡ []
-Found log a b (Some i) = (i < length log) × (of (take i log) a b ≡ []) × ((d : Msg) → goes a b (getD log i d) ≡ true)
+abbrev pub First : List Msg → ℕ → ℕ → ℕ → Type 0
+First log a b i = (i < length log) × (of (take i log) a b ≡ []) × ((d : Msg) → goes a b (getD log i d) ≡ true)
+
+-- a search for the pair's oldest message: where it is, or refused as peek is
+abbrev pub Found : {X : Type 0} → (X → Type 0) → List Msg → ℕ → ℕ → Result X LineFault → Type 0
+Found here log a b (Ok x) = (pair a b ≡ true) × here x
+Found here log a b (Err e) = Err (told e) ≡ peeking a b (paired (of log))

@@ -1,11 +1,9 @@
--- Where a frame line finds a message.
+-- Where the frame of a message lies.
 use Prim.Native.Nat.{ℕ}
 use mathlib.Core.Path.{_≡_}
 use mathlib.Core.Bool.{true}
 use mathlib.Core.List.{List, [], _∷_, _++_}
 use lib.ListN.{length}
-use Rattle.std.specs.declared.option.Option.{Option}
-use Rattle.std.specs.declared.option.Option.the-variants.{Some, None}
 use Rattle.line.specs.Messages.{Msg}
 use Rattle.line.specs.View.{msgOf}
 use Rattle.frame.specs.Frames.{size}
@@ -22,7 +20,3 @@ pub record Placed (log : List Msg) (a b : ℕ) (slot : Slot) : Type 0 where
   pub here : goes a b (msgOf (slot .message)) ≡ true
   pub from : slot .at ≡ length (framed front)
   pub takes : slot .size ≡ size (msgOf (slot .message))
-
-abbrev pub Found : List Msg → ℕ → ℕ → Option Slot → Type 0
-Found log a b None = of log a b ≡ []
-Found log a b (Some slot) = Placed log a b slot

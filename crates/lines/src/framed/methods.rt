@@ -4,16 +4,16 @@ ghost use Rattle.std.specs.Vec.{made};
 ghost use Rattle.line.specs.Lists.{empty, paired};
 ghost use Prim.Native.Nat.{_≤_};
 ghost use lib.ListN.{length};
-ghost use Rattle.lines.specs.Logs.{of};
+ghost use Rattle.lines.specs.Logs.{of, Found};
 ghost use Rattle.lines.specs.Framed.{framed};
 ghost use Rattle.lines.specs.Kept.{log};
-ghost use Rattle.lines.specs.Slots.{Found};
+ghost use Rattle.lines.specs.Slots.{Placed};
 use crate::between::is_between;
 use crate::framed::FrameLine;
 use line::Line;
 use line::LineFault;
 use line::Message;
-use line::is_pair;
+use line::check_pair;
 use std::alloc::AllocError;
 use std::alloc::Global;
 
@@ -48,20 +48,21 @@ impl FrameLine {
         self.frames.as_slice()
     }
 
-    /// The pair's oldest message, and where its frame lies.
-    fn find(&self, sender: u8, receiver: u8) -> Option<Slot>
-        ensures { λ r. ⌜ Found (log (now (self .entry))) sender receiver r ⌝ }
+    /// The pair's oldest message, and where its frame lies: PAIR, then EMPTY.
+    fn find(&self, sender: u8, receiver: u8) -> Result<Slot, LineFault>
+        ensures { λ r. ⌜ Found (Placed (log (now (self .entry))) sender receiver) (log (now (self .entry))) sender receiver r ⌝ }
     {
+        check_pair(sender, receiver)?;
         let bytes = self.frames.as_slice();
         let mut at = 0;
         for _i in 0..self.count {
             let (message, size) = frame::read(&bytes[at..]).unwrap();
             if is_between(&message, sender, receiver) {
-                return Some(Slot { message, at, size });
+                return Ok(Slot { message, at, size });
             }
             at += size;
         }
-        None
+        Err(LineFault::Empty(sender, receiver))
     }
 }
 
@@ -88,9 +89,7 @@ pub impl Line for FrameLine as FrameLineIsLine {
     }
 
     fn count(&self, sender: u8, receiver: u8) -> Result<usize, LineFault> {
-        if !is_pair(sender, receiver) {
-            return Err(LineFault::Pair(sender, receiver));
-        }
+        check_pair(sender, receiver)?;
         let bytes = self.frames.as_slice();
         let mut at = 0;
         let mut count = 0;
@@ -109,28 +108,17 @@ pub impl Line for FrameLine as FrameLineIsLine {
     }
 
     fn peek(&self, sender: u8, receiver: u8) -> Result<Message, LineFault> {
-        if !is_pair(sender, receiver) {
-            return Err(LineFault::Pair(sender, receiver));
-        }
-        match self.find(sender, receiver) {
-            Some(slot) => Ok(slot.message),
-            None => Err(LineFault::Empty(sender, receiver)),
-        }
+        let oldest = self.find(sender, receiver)?;
+        Ok(oldest.message)
     }
 
     fn drop_oldest(&mut self, sender: u8, receiver: u8) -> Result<(), LineFault> {
-        if !is_pair(sender, receiver) {
-            return Err(LineFault::Pair(sender, receiver));
-        }
-        match self.find(sender, receiver) {
-            Some(slot) => {
-                let left = self.frames.len() - slot.size;
-                self.frames.copy_within(slot.at + slot.size.., slot.at);
-                self.frames.truncate(left);
-                self.count -= 1;
-                Ok(())
-            }
-            None => Err(LineFault::Empty(sender, receiver)),
-        }
+        let oldest = self.find(sender, receiver)?;
+        let left = self.frames.len() - oldest.size;
+        self.frames
+            .copy_within(oldest.at + oldest.size.., oldest.at);
+        self.frames.truncate(left);
+        self.count -= 1;
+        Ok(())
     }
 }

@@ -2,14 +2,14 @@
 ghost use mathlib.Core.Path.{_≡_};
 ghost use Rattle.std.specs.Vec.{made};
 ghost use Rattle.line.specs.Lists.{empty, paired};
-ghost use Rattle.lines.specs.Logs.{of, Found};
+ghost use Rattle.lines.specs.Logs.{of, First, Found};
 ghost use Rattle.lines.specs.Held.{log};
 use crate::between::is_between;
 use crate::party::PartyLine;
 use line::Line;
 use line::LineFault;
 use line::Message;
-use line::is_pair;
+use line::check_pair;
 use std::alloc::AllocError;
 use std::alloc::Global;
 
@@ -22,17 +22,17 @@ impl PartyLine {
         Ok(PartyLine { messages })
     }
 
-    /// The place of the pair's oldest message.
-    fn find(&self, sender: u8, receiver: u8) -> Option<usize>
-        ensures { λ r. ⌜ Found (log (now (self .entry))) sender receiver r ⌝ }
+    /// The place of the pair's oldest message: PAIR, then EMPTY.
+    fn find(&self, sender: u8, receiver: u8) -> Result<usize, LineFault>
+        ensures { λ r. ⌜ Found (First (log (now (self .entry))) sender receiver) (log (now (self .entry))) sender receiver r ⌝ }
     {
-        for i in 0..self.messages.len() {
-            let message = self.messages[i];
-            if is_between(&message, sender, receiver) {
-                return Some(i);
+        check_pair(sender, receiver)?;
+        for (i, message) in self.messages.as_slice().iter().enumerate() {
+            if is_between(message, sender, receiver) {
+                return Ok(i);
             }
         }
-        None
+        Err(LineFault::Empty(sender, receiver))
     }
 }
 
@@ -56,13 +56,10 @@ pub impl Line for PartyLine as PartyLineIsLine {
     }
 
     fn count(&self, sender: u8, receiver: u8) -> Result<usize, LineFault> {
-        if !is_pair(sender, receiver) {
-            return Err(LineFault::Pair(sender, receiver));
-        }
+        check_pair(sender, receiver)?;
         let mut count = 0;
-        for i in 0..self.messages.len() {
-            let message = self.messages[i];
-            if is_between(&message, sender, receiver) {
+        for message in self.messages.as_slice() {
+            if is_between(message, sender, receiver) {
                 count += 1;
             }
         }
@@ -74,25 +71,13 @@ pub impl Line for PartyLine as PartyLineIsLine {
     }
 
     fn peek(&self, sender: u8, receiver: u8) -> Result<Message, LineFault> {
-        if !is_pair(sender, receiver) {
-            return Err(LineFault::Pair(sender, receiver));
-        }
-        match self.find(sender, receiver) {
-            Some(i) => Ok(self.messages[i]),
-            None => Err(LineFault::Empty(sender, receiver)),
-        }
+        let oldest = self.find(sender, receiver)?;
+        Ok(self.messages[oldest])
     }
 
     fn drop_oldest(&mut self, sender: u8, receiver: u8) -> Result<(), LineFault> {
-        if !is_pair(sender, receiver) {
-            return Err(LineFault::Pair(sender, receiver));
-        }
-        match self.find(sender, receiver) {
-            Some(i) => {
-                let _ = self.messages.remove(i);
-                Ok(())
-            }
-            None => Err(LineFault::Empty(sender, receiver)),
-        }
+        let oldest = self.find(sender, receiver)?;
+        let _ = self.messages.remove(oldest);
+        Ok(())
     }
 }

@@ -9,7 +9,8 @@ use Rattle.line.specs.Lists.{Lists}
 use Rattle.lines.specs.Kept.{log}
 use Rattle.lines.specs.Logs.{of}
 use Rattle.lines.proofs.Logs.{of-none}
-use Rattle.lines.proofs.Framing.{Holds, holds-as, short}
+use Rattle.lines.proofs.Calls.{is-pair, peeks-none}
+use Rattle.lines.proofs.Framing.{holds-as, short, all-proper}
 use Rattle.lines.proofs.Scan.{none-read, within, read-ok, takes, about, further, passes-by, all-read}
 use Rattle.lines.proofs.framed.FrameLine.find.Needs as need
 
@@ -33,16 +34,18 @@ unwrap-size-requires c κs =
 pub returns-then-is-between : need.returns-then-is-between
 returns-then-is-between c =
     let h = holds-as _ _ _ (c .as-slice-bytes .ensures .value) (c .args .self .now .whole) in
-    let i = c .loop-i .-i in
-    record {
-      front = take i (log (c .args .self .now));
-      back = drop (suc i) (log (c .args .self .now));
-      about = about _ _ _ h i _ (c .loop-i .inv .0) (c .loop-i-test .taken) _ (c .read .ensures .exact) (c .unwrap-size .result) (c .unwrap-size .ensures);
-      none = c .loop-i .inv .1;
-      here = sym (c .is-between .ensures) ∙ c .if-is-between .taken;
-      from = c .loop-i .inv .0;
-      takes = takes _ _ _ h i _ (c .loop-i .inv .0) (c .loop-i-test .taken) _ (c .read .ensures .exact) (c .unwrap-size .result) (c .unwrap-size .ensures);
-    }
+    let i = c .loop-i .-i in (
+      is-pair (c .args .sender) (c .args .receiver) (c .in-Continue-check-pair .ensures tt),
+      record {
+        front = take i (log (c .args .self .now));
+        back = drop (suc i) (log (c .args .self .now));
+        about = about _ _ _ h i _ (c .loop-i .inv .0) (c .loop-i-test .taken) _ (c .read .ensures .exact) (c .unwrap-size .result) (c .unwrap-size .ensures);
+        none = c .loop-i .inv .1;
+        here = sym (c .is-between .ensures) ∙ c .if-is-between .taken;
+        from = c .loop-i .inv .0;
+        takes = takes _ _ _ h i _ (c .loop-i .inv .0) (c .loop-i-test .taken) _ (c .read .ensures .exact) (c .unwrap-size .result) (c .unwrap-size .ensures);
+      },
+    )
 
 pub add-at : need.add-at
 add-at c =
@@ -64,5 +67,7 @@ loop-i-again c =
 
 pub returns : need.returns
 returns c =
-    ap (λ (z : List Msg). of z (c .args .sender) (c .args .receiver)) (sym (all-read _ _ _ (holds-as _ _ _ (c .as-slice-bytes .ensures .value) (c .args .self .now .whole)) (c .loop-i .-i) (c .loop-i-test .left)))
-    ∙ c .loop-i .inv .1
+    let h = holds-as _ _ _ (c .as-slice-bytes .ensures .value) (c .args .self .now .whole) in
+    peeks-none (log (c .args .self .now)) (all-proper _ (h .fit)) (c .args .sender) (c .args .receiver) (is-pair (c .args .sender) (c .args .receiver) (c .in-Continue-check-pair .ensures tt))
+    (ap (λ (z : List Msg). of z (c .args .sender) (c .args .receiver)) (sym (all-read _ _ _ h (c .loop-i .-i) (c .loop-i-test .left)))
+    ∙ c .loop-i .inv .1)

@@ -8,7 +8,7 @@ use Rattle.line.specs.Messages.{Msg}
 use Rattle.line.specs.Lists.{Lists}
 use Rattle.lines.specs.Kept.{log}
 use Rattle.lines.specs.Logs.{of}
-use Rattle.lines.proofs.Calls.{counts}
+use Rattle.lines.proofs.Calls.{is-pair, counts}
 use Rattle.lines.proofs.Logs.{of-none}
 use Rattle.lines.proofs.Framing.{holds-as, short, all-proper}
 use Rattle.lines.proofs.Scan.{none-read, within, read-ok, further, passes-by, counts-one, all-read}
@@ -62,6 +62,6 @@ loop-i-again c =
 pub returns : need.returns
 returns c =
     let h = holds-as _ _ _ (c .as-slice-bytes .ensures .value) (c .args .self .now .whole) in
-    counts (log (c .args .self .now)) (all-proper _ (h .fit)) (c .args .sender) (c .args .receiver) (sym (c .if-not-is-pair .ensures tt)) _
+    counts (log (c .args .self .now)) (all-proper _ (h .fit)) (c .args .sender) (c .args .receiver) (is-pair (c .args .sender) (c .args .receiver) (c .in-Continue-check-pair .ensures tt)) _
     (c .loop-i .inv .1
     ∙ ap (λ (z : List Msg). length (of z (c .args .sender) (c .args .receiver))) (all-read _ _ _ h (c .loop-i .-i) (c .loop-i-test .left)))

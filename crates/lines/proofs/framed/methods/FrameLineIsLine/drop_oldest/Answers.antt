@@ -1,21 +1,19 @@
 use borrow.Author.Needs.{needs}
 use native.Mathlib.Omega.{arith}
-use mathlib.Core.Path.{sym, _∙_}
-use mathlib.Core.List.{_++_}
 use Rattle.lines.specs.Kept.{log}
-use Rattle.lines.proofs.Calls.{drops, drops-none}
+use Rattle.lines.proofs.Calls.{drops}
 use Rattle.lines.proofs.Framing.{holds, short, all-proper, whole-of, log-of}
 use Rattle.lines.proofs.Cut.{ends, some, cut}
 use Rattle.lines.proofs.framed.methods.FrameLineIsLine.drop_oldest.Needs as need
 
 pub sub-left : need.sub-left
 sub-left c =
-    let p = c .in-Some .ensures tt in
+    let p = c .in-Continue-oldest .ensures tt .1 in
     omega (arith, ends _ _ _ (holds _ _ (c .args .self .now .whole)) (p .front) _ (p .back) (p .about) _ _ (p .from) (p .takes), c .args .self .now .frames .ok .0, c .len .ensures)
 
-pub add-slot : need.add-slot
-add-slot c =
-    let p = c .in-Some .ensures tt in
+pub add-oldest : need.add-oldest
+add-oldest c =
+    let p = c .in-Continue-oldest .ensures tt .1 in
     let h = holds _ _ (c .args .self .now .whole) in
     let e = ends _ _ _ h (p .front) _ (p .back) (p .about) _ _ (p .from) (p .takes) in
     let s = short _ _ _ h in
@@ -24,19 +22,19 @@ add-slot c =
 
 pub copy-within-requires : need.copy-within-requires
 copy-within-requires c κs =
-    let p = c .in-Some .ensures tt in
+    let p = c .in-Continue-oldest .ensures tt .1 in
     let e = ends _ _ _ (holds _ _ (c .args .self .now .whole)) (p .front) _ (p .back) (p .about) _ _ (p .from) (p .takes) in
     let l = c .args .self .now .frames .ok .0 in
     record { forward = omega (arith, e, l); within = omega arith; fits = omega (arith, e, l); fresh = tt }
 
 pub sub-self : need.sub-self
 sub-self c =
-    let p = c .in-Some .ensures tt in
+    let p = c .in-Continue-oldest .ensures tt .1 in
     some _ _ _ (holds _ _ (c .args .self .now .whole)) (p .front) _ (p .back) (p .about) _ _ (p .from) (p .takes)
 
 pub ghost-self : need.ghost-self
 ghost-self c =
-    let p = c .in-Some .ensures tt in
+    let p = c .in-Continue-oldest .ensures tt .1 in
     let lies = ends _ _ _ (holds _ _ (c .args .self .now .whole)) (p .front) _ (p .back) (p .about) _ _ (p .from) (p .takes) in
     let h = cut _ _ _ (holds _ _ (c .args .self .now .whole)) (p .front) _ (p .back) (p .about) _ _ (p .from) (p .takes)
     (c .args .self .now .frames .len) _ _ _ (c .args .self .now .frames .ok .0) (omega (arith, c .len .ensures, c .args .self .now .frames .ok .0, lies)) (c .copy-within .ensures .items) (c .truncate .ensures .items) in (
@@ -47,17 +45,12 @@ ghost-self c =
       ),
     )
 
-pub returns-in-Some : need.returns-in-Some
-returns-in-Some c =
-    let p = c .in-Some .ensures tt in
+pub returns : need.returns
+returns c =
+    let p = c .in-Continue-oldest .ensures tt .1 in
     let was = holds _ _ (c .args .self .now .whole) in
     let lies = ends _ _ _ was (p .front) _ (p .back) (p .about) _ _ (p .from) (p .takes) in
     let h = cut _ _ _ was (p .front) _ (p .back) (p .about) _ _ (p .from) (p .takes)
     (c .args .self .now .frames .len) _ _ _ (c .args .self .now .frames .ok .0) (omega (arith, c .len .ensures, c .args .self .now .frames .ok .0, lies)) (c .copy-within .ensures .items) (c .truncate .ensures .items) in
-    drops (log (c .args .self .now)) (all-proper _ (was .fit)) (c .args .sender) (c .args .receiver) (sym (c .if-not-is-pair .ensures tt))
+    drops (log (c .args .self .now)) (all-proper _ (was .fit)) (c .args .sender) (c .args .receiver) (c .in-Continue-oldest .ensures tt .0)
     (p .front) _ (p .back) (p .about) (p .none) (p .here) _ (all-proper _ (holds _ _ (whole-of _ _ _ h) .fit)) (log-of _ _ _ h)
-
-pub returns-in-None : need.returns-in-None
-returns-in-None c =
-    drops-none (log (c .args .self .now)) (all-proper _ (holds _ _ (c .args .self .now .whole) .fit)) (c .args .sender) (c .args .receiver)
-    (sym (c .if-not-is-pair .ensures tt)) (c .in-None .ensures tt)

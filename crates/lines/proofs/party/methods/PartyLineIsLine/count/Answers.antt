@@ -7,30 +7,33 @@ use Rattle.line.specs.Lists.{Lists}
 use Rattle.lines.specs.Logs.{of}
 use Rattle.lines.specs.Held.{log}
 use Rattle.lines.proofs.Logs.{of-none}
-use Rattle.lines.proofs.Calls.{counts}
-use Rattle.lines.proofs.Store.{all-proper, passes-by, counts-one, whole}
+use Rattle.lines.proofs.Calls.{is-pair, counts}
+use Rattle.lines.proofs.Store.{all-proper, in-list-as, passes-by, counts-one, whole}
 use Rattle.lines.proofs.party.methods.PartyLineIsLine.count.Needs as need
 use Rattle.lines.proofs.party.methods.PartyLineIsLine.count.Needs.{then-is-between, else-is-between}
 
-pub loop-i-holds : need.loop-i-holds
-loop-i-holds c = (sym (ap (λ (w : Lists). length (w (c .args .sender) (c .args .receiver))) of-none), omega arith)
+pub loop-message-holds : need.loop-message-holds
+loop-message-holds c = (sym (ap (λ (w : Lists). length (w (c .args .sender) (c .args .receiver))) of-none), omega arith)
 
-pub loop-i-again : need.loop-i-again
-loop-i-again c =
+pub loop-message-again : need.loop-message-again
+loop-message-again c =
+    let e = c .as-slice-message-items .ensures .value in
     elim (c .if-is-between .came) [
       | then-is-between w ↦
-          let m = counts-one (c .args .self .now .messages .items) (c .loop-i .i) (c .index .result .now)
-          (omega (arith, c .args .self .now .messages .ok .0)) (c .index .ensures) (c .args .sender) (c .args .receiver) (sym (c .is-between .ensures) ∙ w .if-is-between .taken) in
-          (omega (arith, m, w .count-is, c .loop-i .inv .0), omega (arith, w .count-is, c .loop-i .inv .1))
+          let m = counts-one (c .args .self .now .messages .items) (c .loop-message .message-index) (c .message-item .result) (omega (arith, ap length e, c .loop-message-test .taken))
+          (in-list-as _ _ _ _ e (c .message-item .is)) (c .args .sender) (c .args .receiver) (sym (c .is-between .ensures) ∙ w .if-is-between .taken) in
+          (omega (arith, m, w .count-is, c .loop-message .inv .0), omega (arith, w .count-is, c .loop-message .inv .1))
       | else-is-between w ↦
-          let m = ap length (passes-by (c .args .self .now .messages .items) (c .loop-i .i) (c .index .result .now)
-          (omega (arith, c .args .self .now .messages .ok .0)) (c .index .ensures) (c .args .sender) (c .args .receiver) (sym (c .is-between .ensures) ∙ w .if-is-between .left)) in
-          (omega (arith, m, w .count-is, c .loop-i .inv .0), omega (arith, w .count-is, c .loop-i .inv .1))
+          let m = ap length (passes-by (c .args .self .now .messages .items) (c .loop-message .message-index) (c .message-item .result) (omega (arith, ap length e, c .loop-message-test .taken))
+          (in-list-as _ _ _ _ e (c .message-item .is)) (c .args .sender) (c .args .receiver) (sym (c .is-between .ensures) ∙ w .if-is-between .left)) in
+          (omega (arith, m, w .count-is, c .loop-message .inv .0), omega (arith, w .count-is, c .loop-message .inv .1))
     ]
 
 pub returns : need.returns
 returns c =
-    counts (log (c .args .self .now)) (all-proper (c .args .self .now .messages .items)) (c .args .sender) (c .args .receiver) (sym (c .if-not-is-pair .ensures tt)) _
-    (c .loop-i .inv .0
+    let e = c .as-slice-message-items .ensures .value in
+    counts (log (c .args .self .now)) (all-proper (c .args .self .now .messages .items)) (c .args .sender) (c .args .receiver)
+    (is-pair (c .args .sender) (c .args .receiver) (c .in-Continue-check-pair .ensures tt)) _
+    (c .loop-message .inv .0
     ∙ ap (λ (z : List Msg). length (of z (c .args .sender) (c .args .receiver)))
-    (whole (c .args .self .now .messages .items) (c .loop-i .i) (omega (arith, c .args .self .now .messages .ok .0))))
+    (whole (c .args .self .now .messages .items) (c .loop-message .message-index) (omega (arith, ap length e, c .loop-message-test .left))))

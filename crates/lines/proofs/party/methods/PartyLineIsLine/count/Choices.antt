@@ -6,5 +6,6 @@ use Rattle.lines.specs.Held.{log}
 use Rattle.lines.proofs.party.methods.PartyLineIsLine.count.Given as given
 
 -- those of the pair so far
-abbrev pub Inv-loop-i : given.InvT-loop-i
-Inv-loop-i l = (l .count ≡ length (of (take (l .i) (log (l .self))) (l .sender) (l .receiver))) × (l .count ≤ l .i)
+abbrev pub Inv-loop-message : given.InvT-loop-message
+Inv-loop-message l =
+    (l .count ≡ length (of (take (l .message-index) (log (l .self))) (l .sender) (l .receiver))) × (l .count ≤ l .message-index)
