@@ -36,7 +36,7 @@ impl FrameFault {
     {
         let (number, at) = match self {
             FrameFault::Cut(at) => (18, at),
-            FrameFault::Words(part) => return part.refusal(),
+            FrameFault::Words(misfit) => return misfit.refusal(),
             FrameFault::Buffer(at) => (20, at),
         };
         Refusal {

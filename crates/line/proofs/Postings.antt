@@ -49,3 +49,29 @@ pub answers : (room : ℕ) (ms : List Message) (w v : Lists) (r : Result (Unit {
 answers room ms w v r e fits =
     let h = enough room ms w fits in
     (accepted r (ap (λ (c : Change). c .0) e ∙ h .0), ap (λ (c : Change). total (c .1)) e ∙ h .1)
+
+-- the two clauses at an end of the loop
+abbrev Told : ℕ → List Message → (w v : Lists) → Result (Unit {0}) LineFault → Type 0
+Told room ms w v r =
+    record {
+      exact : _≡_ {A = Change} (mapped (λ x. x) told r, v) (postings room (map msgOf ms) (Ok tt, w));
+      enough : total w + length ms ≤ room → (r ≡ Ok tt) × (total v ≡ total w + length ms);
+    }
+
+-- the message at place i is refused with f
+pub refuses : (room : ℕ) (ms : List Message) (i : ℕ) (m : Message) (w v u : Lists) (f : LineFault) (r : Result (Unit {0}) LineFault) → r ≡ Err f
+    → i < length ms → m ≡ getD ms i m
+    → postings room (map msgOf ms) (Ok tt, w) ≡ postings room (map msgOf (drop i ms)) (Ok tt, v)
+    → _≡_ {A = Change} (Err (told f), u) (posting room (msgOf m) v) → Told room ms w u r
+refuses room ms i m w v u f r er lt at inv e =
+    let x : _≡_ {A = Change} (mapped (λ z. z) told r, u) (postings room (map msgOf ms) (Ok tt, w)) =
+    ap (λ (z : Result (Unit {0}) LineFault). (mapped (λ y. y) told z, u)) er
+    ∙ sym (inv ∙ turn room ms i m v (Err (told f), u) lt at e ∙ stops room (map msgOf (drop (i + 1) ms)) (told f) u) in
+    record { exact = x; enough = answers room ms w u r x }
+
+-- no message is left
+pub finishes : (room : ℕ) (ms : List Message) (i : ℕ) (w v : Lists) → length ms ≤ i
+    → postings room (map msgOf ms) (Ok tt, w) ≡ postings room (map msgOf (drop i ms)) (Ok tt, v) → Told room ms w v (Ok tt)
+finishes room ms i w v le inv =
+    let x : _≡_ {A = Change} (Ok tt, v) (postings room (map msgOf ms) (Ok tt, w)) = sym (inv ∙ ends room ms i v le) in
+    record { exact = x; enough = answers room ms w v (Ok tt) x }

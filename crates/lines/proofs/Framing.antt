@@ -125,9 +125,9 @@ pub holds-none : (bs : List ℕ) → bs ≡ [] → Holds 0 bs []
 unfolding framed
 holds-none bs e = record { bytes = e; many = refl; fit = tt }
 
--- the same bytes under another name
-pub holds-as : (n : ℕ) (xs bs : List ℕ) → bs ≡ xs → isSome (parsed n xs) ≡ true → Holds n bs (valueOr (parsed n xs) [])
-holds-as n xs bs e whole = subst (λ (z : List ℕ). Holds n z (valueOr (parsed n xs) [])) (sym e) (holds n xs whole)
+-- the same bytes, as they are told
+pub holds-as : (n : ℕ) (xs bs : List ℕ) → isSome (parsed n xs) ≡ true → bs ≡ framed (valueOr (parsed n xs) []) → Holds n bs (valueOr (parsed n xs) [])
+holds-as n xs bs whole e = let h = holds n xs whole in record { bytes = e; many = h .many; fit = h .fit }
 
 pub short : (n : ℕ) (bs : List ℕ) (log : List Msg) → Holds n bs log → length bs ≤ 84 * n
 short n bs log h = omega (arith, ap length (h .bytes), framed-short log (h .fit), h .many)

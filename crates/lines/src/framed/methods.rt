@@ -53,7 +53,7 @@ impl FrameLine {
         ensures { λ r. ⌜ Found (Placed (log (now (self .entry))) sender receiver) (log (now (self .entry))) sender receiver r ⌝ }
     {
         check_pair(sender, receiver)?;
-        let bytes = self.frames.as_slice();
+        let bytes = self.as_bytes();
         let mut at = 0;
         for _i in 0..self.count {
             let (message, size) = frame::read(&bytes[at..]).unwrap();
@@ -90,17 +90,17 @@ pub impl Line for FrameLine as FrameLineIsLine {
 
     fn count(&self, sender: u8, receiver: u8) -> Result<usize, LineFault> {
         check_pair(sender, receiver)?;
-        let bytes = self.frames.as_slice();
+        let bytes = self.as_bytes();
         let mut at = 0;
-        let mut count = 0;
+        let mut found = 0;
         for _i in 0..self.count {
             let (message, size) = frame::read(&bytes[at..]).unwrap();
             if is_between(&message, sender, receiver) {
-                count += 1;
+                found += 1;
             }
             at += size;
         }
-        Ok(count)
+        Ok(found)
     }
 
     fn total(&self) -> usize {
@@ -113,10 +113,10 @@ pub impl Line for FrameLine as FrameLineIsLine {
     }
 
     fn drop_oldest(&mut self, sender: u8, receiver: u8) -> Result<(), LineFault> {
-        let oldest = self.find(sender, receiver)?;
-        let left = self.frames.len() - oldest.size;
-        self.frames
-            .copy_within(oldest.at + oldest.size.., oldest.at);
+        let slot = self.find(sender, receiver)?;
+        let left = self.frames.len() - slot.size;
+        let end = slot.at + slot.size;
+        self.frames.copy_within(end.., slot.at);
         self.frames.truncate(left);
         self.count -= 1;
         Ok(())

@@ -57,13 +57,13 @@ pub impl Line for PartyLine as PartyLineIsLine {
 
     fn count(&self, sender: u8, receiver: u8) -> Result<usize, LineFault> {
         check_pair(sender, receiver)?;
-        let mut count = 0;
+        let mut found = 0;
         for message in self.messages.as_slice() {
             if is_between(message, sender, receiver) {
-                count += 1;
+                found += 1;
             }
         }
-        Ok(count)
+        Ok(found)
     }
 
     fn total(&self) -> usize {

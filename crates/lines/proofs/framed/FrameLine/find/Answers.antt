@@ -20,20 +20,20 @@ loop-i-holds c =
 
 pub part-read-count : need.part-read-count
 part-read-count c =
-    within _ _ _ (holds-as _ _ _ (c .as-slice-bytes .ensures .value) (c .args .self .now .whole)) (c .loop-i .-i) _ (c .loop-i .inv .0)
+    within _ _ _ (holds-as _ _ _ (c .args .self .now .whole) (c .as-bytes-bytes .ensures .exact)) (c .loop-i .-i) _ (c .loop-i .inv .0)
 
 pub part-read-start : need.part-read-start
 part-read-start c =
-    within _ _ _ (holds-as _ _ _ (c .as-slice-bytes .ensures .value) (c .args .self .now .whole)) (c .loop-i .-i) _ (c .loop-i .inv .0)
+    within _ _ _ (holds-as _ _ _ (c .args .self .now .whole) (c .as-bytes-bytes .ensures .exact)) (c .loop-i .-i) _ (c .loop-i .inv .0)
 
 pub unwrap-size-requires : need.unwrap-size-requires
 unwrap-size-requires c κs =
-    read-ok _ _ _ (holds-as _ _ _ (c .as-slice-bytes .ensures .value) (c .args .self .now .whole)) (c .loop-i .-i) _ (c .loop-i .inv .0)
+    read-ok _ _ _ (holds-as _ _ _ (c .args .self .now .whole) (c .as-bytes-bytes .ensures .exact)) (c .loop-i .-i) _ (c .loop-i .inv .0)
     (c .loop-i-test .taken) _ (c .read .ensures .exact)
 
 pub returns-then-is-between : need.returns-then-is-between
 returns-then-is-between c =
-    let h = holds-as _ _ _ (c .as-slice-bytes .ensures .value) (c .args .self .now .whole) in
+    let h = holds-as _ _ _ (c .args .self .now .whole) (c .as-bytes-bytes .ensures .exact) in
     let i = c .loop-i .-i in (
       is-pair (c .args .sender) (c .args .receiver) (c .in-Continue-check-pair .ensures tt),
       record {
@@ -49,7 +49,7 @@ returns-then-is-between c =
 
 pub add-at : need.add-at
 add-at c =
-    let h = holds-as _ _ _ (c .as-slice-bytes .ensures .value) (c .args .self .now .whole) in
+    let h = holds-as _ _ _ (c .args .self .now .whole) (c .as-bytes-bytes .ensures .exact) in
     let f = further _ _ _ h (c .loop-i .-i) _ (c .loop-i .inv .0) (c .loop-i-test .taken) _ (c .read .ensures .exact) (c .unwrap-size .result) (c .unwrap-size .ensures) in
     let w = within _ _ _ h (c .loop-i .-i + 1) _ f in
     let s = short _ _ _ h in
@@ -58,7 +58,7 @@ add-at c =
 
 pub loop-i-again : need.loop-i-again
 loop-i-again c =
-    let h = holds-as _ _ _ (c .as-slice-bytes .ensures .value) (c .args .self .now .whole) in (
+    let h = holds-as _ _ _ (c .args .self .now .whole) (c .as-bytes-bytes .ensures .exact) in (
       further _ _ _ h (c .loop-i .-i) _ (c .loop-i .inv .0) (c .loop-i-test .taken) _ (c .read .ensures .exact) (c .unwrap-size .result) (c .unwrap-size .ensures),
       passes-by _ _ _ h (c .loop-i .-i) _ (c .loop-i .inv .0) (c .loop-i-test .taken) _ (c .read .ensures .exact) (c .unwrap-size .result) (c .unwrap-size .ensures)
           (c .args .sender) (c .args .receiver) (sym (c .is-between .ensures) ∙ c .if-is-between .left)
@@ -67,7 +67,7 @@ loop-i-again c =
 
 pub returns : need.returns
 returns c =
-    let h = holds-as _ _ _ (c .as-slice-bytes .ensures .value) (c .args .self .now .whole) in
+    let h = holds-as _ _ _ (c .args .self .now .whole) (c .as-bytes-bytes .ensures .exact) in
     peeks-none (log (c .args .self .now)) (all-proper _ (h .fit)) (c .args .sender) (c .args .receiver) (is-pair (c .args .sender) (c .args .receiver) (c .in-Continue-check-pair .ensures tt))
     (ap (λ (z : List Msg). of z (c .args .sender) (c .args .receiver)) (sym (all-read _ _ _ h (c .loop-i .-i) (c .loop-i-test .left)))
     ∙ c .loop-i .inv .1)

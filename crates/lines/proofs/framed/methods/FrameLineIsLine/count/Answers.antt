@@ -24,20 +24,20 @@ loop-i-holds c = (
 
 pub part-read-count : need.part-read-count
 part-read-count c =
-    within _ _ _ (holds-as _ _ _ (c .as-slice-bytes .ensures .value) (c .args .self .now .whole)) (c .loop-i .-i) _ (c .loop-i .inv .0)
+    within _ _ _ (holds-as _ _ _ (c .args .self .now .whole) (c .as-bytes-bytes .ensures .exact)) (c .loop-i .-i) _ (c .loop-i .inv .0)
 
 pub part-read-start : need.part-read-start
 part-read-start c =
-    within _ _ _ (holds-as _ _ _ (c .as-slice-bytes .ensures .value) (c .args .self .now .whole)) (c .loop-i .-i) _ (c .loop-i .inv .0)
+    within _ _ _ (holds-as _ _ _ (c .args .self .now .whole) (c .as-bytes-bytes .ensures .exact)) (c .loop-i .-i) _ (c .loop-i .inv .0)
 
 pub unwrap-size-requires : need.unwrap-size-requires
 unwrap-size-requires c κs =
-    read-ok _ _ _ (holds-as _ _ _ (c .as-slice-bytes .ensures .value) (c .args .self .now .whole)) (c .loop-i .-i) _ (c .loop-i .inv .0)
+    read-ok _ _ _ (holds-as _ _ _ (c .args .self .now .whole) (c .as-bytes-bytes .ensures .exact)) (c .loop-i .-i) _ (c .loop-i .inv .0)
     (c .loop-i-test .taken) _ (c .read .ensures .exact)
 
 pub add-at : need.add-at
 add-at c =
-    let h = holds-as _ _ _ (c .as-slice-bytes .ensures .value) (c .args .self .now .whole) in
+    let h = holds-as _ _ _ (c .args .self .now .whole) (c .as-bytes-bytes .ensures .exact) in
     let f = further _ _ _ h (c .loop-i .-i) _ (c .loop-i .inv .0) (c .loop-i-test .taken) _ (c .read .ensures .exact) (c .unwrap-size .result) (c .unwrap-size .ensures) in
     let w = within _ _ _ h (c .loop-i .-i + 1) _ f in
     let s = short _ _ _ h in
@@ -46,22 +46,22 @@ add-at c =
 
 pub loop-i-again : need.loop-i-again
 loop-i-again c =
-    let h = holds-as _ _ _ (c .as-slice-bytes .ensures .value) (c .args .self .now .whole) in
+    let h = holds-as _ _ _ (c .args .self .now .whole) (c .as-bytes-bytes .ensures .exact) in
     let f = further _ _ _ h (c .loop-i .-i) _ (c .loop-i .inv .0) (c .loop-i-test .taken) _ (c .read .ensures .exact) (c .unwrap-size .result) (c .unwrap-size .ensures) in
     elim (c .if-is-between .came) [
       | then-is-between w ↦
           let m = counts-one _ _ _ h (c .loop-i .-i) _ (c .loop-i .inv .0) (c .loop-i-test .taken) _ (c .read .ensures .exact) (c .unwrap-size .result) (c .unwrap-size .ensures)
           (c .args .sender) (c .args .receiver) (sym (c .is-between .ensures) ∙ w .if-is-between .taken) in
-          (f, omega (arith, m, w .count-is, c .loop-i .inv .1), omega (arith, w .count-is, c .loop-i .inv .2))
+          (f, omega (arith, m, w .found-is, c .loop-i .inv .1), omega (arith, w .found-is, c .loop-i .inv .2))
       | else-is-between w ↦
           let m = ap length (passes-by _ _ _ h (c .loop-i .-i) _ (c .loop-i .inv .0) (c .loop-i-test .taken) _ (c .read .ensures .exact) (c .unwrap-size .result) (c .unwrap-size .ensures)
           (c .args .sender) (c .args .receiver) (sym (c .is-between .ensures) ∙ w .if-is-between .left)) in
-          (f, omega (arith, m, w .count-is, c .loop-i .inv .1), omega (arith, w .count-is, c .loop-i .inv .2))
+          (f, omega (arith, m, w .found-is, c .loop-i .inv .1), omega (arith, w .found-is, c .loop-i .inv .2))
     ]
 
 pub returns : need.returns
 returns c =
-    let h = holds-as _ _ _ (c .as-slice-bytes .ensures .value) (c .args .self .now .whole) in
+    let h = holds-as _ _ _ (c .args .self .now .whole) (c .as-bytes-bytes .ensures .exact) in
     counts (log (c .args .self .now)) (all-proper _ (h .fit)) (c .args .sender) (c .args .receiver) (is-pair (c .args .sender) (c .args .receiver) (c .in-Continue-check-pair .ensures tt)) _
     (c .loop-i .inv .1
     ∙ ap (λ (z : List Msg). length (of z (c .args .sender) (c .args .receiver))) (all-read _ _ _ h (c .loop-i .-i) (c .loop-i-test .left)))

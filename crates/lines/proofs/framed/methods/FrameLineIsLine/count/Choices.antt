@@ -10,4 +10,4 @@ use Rattle.lines.proofs.framed.methods.FrameLineIsLine.count.Given as given
 abbrev pub Inv-loop-i : given.InvT-loop-i
 Inv-loop-i l =
     (l .at ≡ length (framed (take (l .-i) (log (l .self)))))
-    × (l .count ≡ length (of (take (l .-i) (log (l .self))) (l .sender) (l .receiver))) × (l .count ≤ l .-i)
+    × (l .found ≡ length (of (take (l .-i) (log (l .self))) (l .sender) (l .receiver))) × (l .found ≤ l .-i)

@@ -22,11 +22,11 @@ loop-message-again c =
       | then-is-between w ↦
           let m = counts-one (c .args .self .now .messages .items) (c .loop-message .message-index) (c .message-item .result) (omega (arith, ap length e, c .loop-message-test .taken))
           (in-list-as _ _ _ _ e (c .message-item .is)) (c .args .sender) (c .args .receiver) (sym (c .is-between .ensures) ∙ w .if-is-between .taken) in
-          (omega (arith, m, w .count-is, c .loop-message .inv .0), omega (arith, w .count-is, c .loop-message .inv .1))
+          (omega (arith, m, w .found-is, c .loop-message .inv .0), omega (arith, w .found-is, c .loop-message .inv .1))
       | else-is-between w ↦
           let m = ap length (passes-by (c .args .self .now .messages .items) (c .loop-message .message-index) (c .message-item .result) (omega (arith, ap length e, c .loop-message-test .taken))
           (in-list-as _ _ _ _ e (c .message-item .is)) (c .args .sender) (c .args .receiver) (sym (c .is-between .ensures) ∙ w .if-is-between .left)) in
-          (omega (arith, m, w .count-is, c .loop-message .inv .0), omega (arith, w .count-is, c .loop-message .inv .1))
+          (omega (arith, m, w .found-is, c .loop-message .inv .0), omega (arith, w .found-is, c .loop-message .inv .1))
     ]
 
 pub returns : need.returns

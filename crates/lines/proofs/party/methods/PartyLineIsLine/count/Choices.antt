@@ -8,4 +8,4 @@ use Rattle.lines.proofs.party.methods.PartyLineIsLine.count.Given as given
 -- those of the pair so far
 abbrev pub Inv-loop-message : given.InvT-loop-message
 Inv-loop-message l =
-    (l .count ≡ length (of (take (l .message-index) (log (l .self))) (l .sender) (l .receiver))) × (l .count ≤ l .message-index)
+    (l .found ≡ length (of (take (l .message-index) (log (l .self))) (l .sender) (l .receiver))) × (l .found ≤ l .message-index)
