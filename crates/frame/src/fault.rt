@@ -5,13 +5,11 @@ ghost use Rattle.frame.specs.Refusals.{told, title};
 use line::Layer;
 use line::Misfit;
 use line::MisfitDebug;
-use line::MisfitEq;
-use line::MisfitPartialEq;
 use line::Place;
 use line::Refusal;
 
 /// Why a frame is not read or not written, with the offset of the fault.
-#[derive(Clone, Copy, PartialEq, Eq, Debug)]
+#[derive(Clone, Copy, Debug)]
 pub enum FrameFault {
     /// The bytes end here, before the frame does.
     Cut(usize),

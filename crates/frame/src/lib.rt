@@ -15,7 +15,5 @@ pub use exports::folgainu_frame_read;
 pub use exports::folgainu_frame_write;
 pub use fault::FrameFault;
 pub use fault::FrameFaultDebug;
-pub use fault::FrameFaultEq;
 pub use fault::FrameFaultFromMisfit;
-pub use fault::FrameFaultPartialEq;
 pub use theorem::round_trip;

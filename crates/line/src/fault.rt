@@ -2,13 +2,11 @@
 ghost use mathlib.Core.Path.{_≡_};
 ghost use Rattle.line.specs.Refusals.{told, misfits, title};
 use crate::refusal::Layer;
-use crate::refusal::LayerDebug;
-use crate::refusal::LayerPartialEq;
 use crate::refusal::Place;
 use crate::refusal::Refusal;
 
 /// Why a call of a line is refused, with the sender and the receiver that it named.
-#[derive(Clone, Copy, PartialEq, Eq, Debug)]
+#[derive(Clone, Copy, Debug)]
 pub enum LineFault {
     /// The two numbers are not those of two different stations.
     Pair(u8, u8),
@@ -48,7 +46,7 @@ impl LineFault {
 }
 
 /// The first part of a message, in the order of a frame, that fits no message together with the parts before it.
-#[derive(Clone, Copy, PartialEq, Eq, Debug)]
+#[derive(Clone, Copy, Debug)]
 pub enum Misfit {
     Receiver,
     Kind,

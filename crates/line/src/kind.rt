@@ -3,7 +3,7 @@ ghost use mathlib.Core.Path.{_≡_};
 ghost use Rattle.line.specs.Kinds.{number as numberOf, kindOf, bears, title};
 
 /// What a message asks, gives or answers. Kinds 1 to 4 go from a page's home to the other stations, 5 to 10 to the home.
-#[derive(Clone, Copy, PartialEq, Eq, Debug)]
+#[derive(Clone, Copy)]
 pub enum Kind {
     SharedCopy = 1,
     ExclusiveCopy = 2,

@@ -16,24 +16,14 @@ mod refusal;
 
 pub use fault::LineFault;
 pub use fault::LineFaultDebug;
-pub use fault::LineFaultEq;
-pub use fault::LineFaultPartialEq;
 pub use fault::Misfit;
 pub use fault::MisfitDebug;
-pub use fault::MisfitEq;
-pub use fault::MisfitPartialEq;
 pub use kind::Kind;
-pub use kind::KindDebug;
-pub use kind::KindEq;
-pub use kind::KindPartialEq;
 pub use message::Message;
 pub use message::methods::misfit;
 pub use refusal::Layer;
 pub use refusal::Place;
 pub use refusal::Refusal;
-pub use refusal::RefusalDebug;
-pub use refusal::RefusalEq;
-pub use refusal::RefusalPartialEq;
 
 /// A line: what carries messages between stations. Its meaning is, for each ordered pair of stations, the list of
 /// messages waiting, oldest first. Whoever makes a line shows what each call answers, and every list after it.

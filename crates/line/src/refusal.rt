@@ -1,13 +1,13 @@
 // What every refusal tells: its layer, its number and its place.
 
 /// The part of the product that refuses.
-#[derive(Clone, Copy, PartialEq, Eq, Debug)]
+#[derive(Clone, Copy)]
 pub enum Layer {
     Line,
 }
 
 /// Where the fault is.
-#[derive(Clone, Copy, PartialEq, Eq, Debug)]
+#[derive(Clone, Copy)]
 pub enum Place {
     /// The byte at this offset.
     Offset(usize),
@@ -16,7 +16,7 @@ pub enum Place {
 }
 
 /// A refusal in the words of the documents.
-#[derive(Clone, Copy, PartialEq, Eq, Debug)]
+#[derive(Clone, Copy)]
 pub struct Refusal {
     pub layer: Layer,
     pub number: u8,

@@ -3,6 +3,7 @@ ghost use mathlib.Core.Path.{_≡_};
 ghost use Rattle.std.specs.Vec.{made};
 ghost use Rattle.line.specs.Lists.{empty, paired};
 ghost use Prim.Native.Nat.{_≤_};
+ghost use lib.Dec.{leb};
 ghost use lib.ListN.{length};
 ghost use Rattle.lines.specs.Logs.{of, Found};
 ghost use Rattle.lines.specs.Framed.{framed};
@@ -48,6 +49,13 @@ impl FrameLine {
         self.frames.as_slice()
     }
 
+    /// Whether as many messages wait as the line holds.
+    fn is_full(&self) -> bool
+        ensures { λ r. ⌜ r ≡ leb 256 (now (self .entry) .count) ⌝ }
+    {
+        self.count >= FrameLine::CAPACITY
+    }
+
     /// The pair's oldest message, and where its frame lies: PAIR, then EMPTY.
     fn find(&self, sender: u8, receiver: u8) -> Result<Slot, LineFault>
         ensures { λ r. ⌜ Found (Placed (log (now (self .entry))) sender receiver) (log (now (self .entry))) sender receiver r ⌝ }
@@ -78,7 +86,7 @@ pub impl Line for FrameLine as FrameLineIsLine {
     }
 
     fn post(&mut self, message: Message) -> Result<(), LineFault> {
-        if self.count >= Self::CAPACITY {
+        if self.is_full() {
             return Err(LineFault::NoPlace(message.sender(), message.receiver()));
         }
         let mut frame = [0; LONGEST];

@@ -1,5 +1,7 @@
 // What a party line does.
 ghost use mathlib.Core.Path.{_≡_};
+ghost use lib.Dec.{leb};
+ghost use Rattle.std.specs.Of.Vec.{vec-len};
 ghost use Rattle.std.specs.Vec.{made};
 ghost use Rattle.line.specs.Lists.{empty, paired};
 ghost use Rattle.lines.specs.Logs.{of, First, Found};
@@ -20,6 +22,13 @@ impl PartyLine {
     {
         let messages = Vec::with_capacity(heap, PartyLine::CAPACITY)?;
         Ok(PartyLine { messages })
+    }
+
+    /// Whether as many messages wait as the line holds.
+    fn is_full(&self) -> bool
+        ensures { λ r. ⌜ r ≡ leb 576 (vec-len (now (self .entry) .messages)) ⌝ }
+    {
+        self.messages.len() >= PartyLine::CAPACITY
     }
 
     /// The place of the pair's oldest message: PAIR, then EMPTY.
@@ -48,7 +57,7 @@ pub impl Line for PartyLine as PartyLineIsLine {
     }
 
     fn post(&mut self, message: Message) -> Result<(), LineFault> {
-        if self.messages.len() >= Self::CAPACITY {
+        if self.is_full() {
             return Err(LineFault::NoPlace(message.sender(), message.receiver()));
         }
         self.messages.push_reserved(message);
