@@ -2,6 +2,8 @@
 mod codec;
 mod exports;
 mod fault;
+#[cfg(test)]
+mod tests;
 mod theorem;
 
 pub use codec::HEADER;
