@@ -15,6 +15,11 @@ use Rattle.frame.specs.Frames.{encoded, wordAt, headed, decoded}
 use Rattle.frame.proofs.Parts as parts
 use Rattle.frame.proofs.Round.{reads, regains}
 
+-- what is told of a frame of 20 + n bytes
+pub record Whole (bs : List ℕ) (n : ℕ) (m : Message) : Type 0 where
+  pub exact : Ok (msgOf m, 20 + n) ≡ decoded bs
+  pub back : encoded (msgOf m) ≡ take (20 + n) bs
+
 -- bytes with a whole frame at their start, and the values that the code has of it
 module _ (bs text : List ℕ) (r kn p s n : ℕ) (k : Kind)
     (er : r ≡ wordAt bs 0) (ek : kn ≡ wordAt bs 4) (ep : p ≡ wordAt bs 8) (es : s ≡ wordAt bs 12) (en : n ≡ wordAt bs 16)
@@ -35,8 +40,9 @@ module _ (bs text : List ℕ) (r kn p s n : ℕ) (k : Kind)
       ∙ (λ i. msg (es i) (er i) (ep i) k (et i))
       ∙ ap (λ (j : ℕ). msg (wordAt bs 12) (wordAt bs 0) (wordAt bs 8) k (take j (drop 20 bs))) en
 
-  pub took : (m : Message) → Ok (msgOf m) ≡ made s r p k text → Ok (msgOf m, 20 + n) ≡ decoded bs
-  took m q = (λ i. Ok (said m q i, 20 + en i)) ∙ sym (reads bs k (omega arith) heads (omega (arith, en)))
-
-  pub gives-back : (m : Message) → Ok (msgOf m) ≡ made s r p k text → encoded (msgOf m) ≡ take (20 + n) bs
-  gives-back m q = ap encoded (said m q) ∙ regains bs k heads (omega (arith, en)) ∙ ap (λ (j : ℕ). take (20 + j) bs) (sym en)
+  pub whole : (m : Message) → Ok (msgOf m) ≡ made s r p k text → Whole bs n m
+  whole m q =
+      record {
+        exact = (λ i. Ok (said m q i, 20 + en i)) ∙ sym (reads bs k (omega arith) heads (omega (arith, en)));
+        back = ap encoded (said m q) ∙ regains bs k heads (omega (arith, en)) ∙ ap (λ (j : ℕ). take (20 + j) bs) (sym en);
+      }

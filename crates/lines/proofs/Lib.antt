@@ -1,4 +1,5 @@
 pub mod Logs
+pub mod Places
 pub mod Calls
 pub mod Store
 pub mod Framing

@@ -1,15 +1,14 @@
 -- Going through the frames of a frame line, one by one.
 use Prim.Native.Nat.{ℕ, suc, _+_, _-_, _<_, _≤_}
 use native.Mathlib.Omega.{arith}
-use native.Mathlib.Numerals.{add-one}
 use mathlib.Core.Path.{_≡_, refl, sym, ap, subst, _∙_}
-use mathlib.Core.Bool.{Bool, true, false, cond}
-use mathlib.Core.List.{List, [], _∷_, _++_, append-nil}
+use mathlib.Core.Bool.{true}
+use mathlib.Core.List.{List, [], _∷_, _++_}
 use lib.ListN.{length, getD, take, drop}
 use lib.Seq.{drop-cons}
 use Rattle.std.specs.shelf.Lists.{All}
 use Rattle.std.proofs.shelf.Elements.{all-getD}
-use Rattle.std.proofs.shelf.Lists.{take-append-drop, drop-at, take-rest, take-more, take-all, length-append}
+use Rattle.std.proofs.shelf.Lists.{take-append-drop, drop-at, take-rest, take-all, length-append, getD-default}
 use Rattle.std.specs.declared.result.Result.{Result}
 use Rattle.std.specs.declared.result.Result.the-variants.{Ok, Err}
 use Rattle.std.specs.Results.{isOk, mapped, valueOr}
@@ -22,10 +21,9 @@ use Rattle.frame.specs.declared.fault.FrameFault.{FrameFault}
 use Rattle.frame.specs.Refusals.{told}
 use Rattle.frame.specs.Frames.{encoded, size, decoded, seen}
 use Rattle.frame.proofs.Round.{again}
-use Rattle.lines.specs.Logs.{goes, of}
 use Rattle.lines.specs.Framed.{framed}
 use Rattle.lines.proofs.Framing.{Holds, framed-append, framed-cons}
-use Rattle.lines.proofs.Logs.{of-append, of-one}
+use Rattle.lines.proofs.Places.{more}
 
 ok-mapped : (r : Result (Message × ℕ) FrameFault) (p : Msg × ℕ) → mapped seen told r ≡ Ok p → isOk r ≡ true
 ok-mapped (Ok x) p e = refl
@@ -38,6 +36,13 @@ ok-seen r x p e f =
 one : (m : Msg) → length (framed (m ∷ [])) ≡ size m
 unfolding framed
 one m = omega (arith, length-append (m .text) [])
+
+-- what is known of the message x that was read at place i of the log, from the byte at on
+pub record Turn (log : List Msg) (i at : ℕ) (x : Message × ℕ) : Type 0 where
+  pub inside : i < length log
+  pub there : getD log i (msgOf (x .0)) ≡ msgOf (x .0)
+  pub takes : x .1 ≡ size (msgOf (x .0))
+  pub further : at + x .1 ≡ length (framed (take (i + 1) log))
 
 -- i frames lie before the byte at
 module _ (n : ℕ) (bs : List ℕ) (log : List Msg) (h : Holds n bs log) (i at : ℕ) (before : at ≡ length (framed (take i log))) where
@@ -52,62 +57,45 @@ module _ (n : ℕ) (bs : List ℕ) (log : List Msg) (h : Holds n bs log) (i at :
 
   -- and there is one more, which was read
   module _ (lt : i < n) (r : Result (Message × ℕ) FrameFault) (got : mapped seen told r ≡ decoded (take (length bs - at) (drop at bs))) where
-    inside : i < length log
-    inside = omega (arith, h .many)
+    lies : i < length log
+    lies = omega (arith, h .many)
 
     -- the message there
-    there : Msg
-    there = getD log i (msg 0 0 0 Invalidate [])
+    next : Msg
+    next = getD log i (msg 0 0 0 Invalidate [])
 
-    reads : mapped seen told r ≡ Ok (there, size there)
-    unfolding there
+    reads : mapped seen told r ≡ Ok (next, size next)
+    unfolding next
     reads =
-        got ∙ ap decoded (take-rest bs at ∙ rest ∙ ap framed (drop-cons log i _ inside) ∙ framed-cons _ _)
-        ∙ again _ _ (all-getD Fits log i _ inside (h .fit))
+        got ∙ ap decoded (take-rest bs at ∙ rest ∙ ap framed (drop-cons log i _ lies) ∙ framed-cons _ _)
+        ∙ again _ _ (all-getD Fits log i _ lies (h .fit))
 
     pub read-ok : isOk r ≡ true
     read-ok = ok-mapped r _ reads
 
     module _ (x : Message × ℕ) (was : r ≡ Ok x) where
-      is : seen x ≡ (there, size there)
+      is : seen x ≡ (next, size next)
       is = ok-seen r x _ reads was
 
-      message : msgOf (x .0) ≡ there
+      message : msgOf (x .0) ≡ next
       message = ap (λ (p : Msg × ℕ). p .0) is
 
-      pub takes : x .1 ≡ size (msgOf (x .0))
-      takes = ap (λ (p : Msg × ℕ). p .1) is ∙ ap size (sym message)
+      long : x .1 ≡ size (msgOf (x .0))
+      long = ap (λ (p : Msg × ℕ). p .1) is ∙ ap size (sym message)
 
-      pub about : log ≡ take i log ++ msgOf (x .0) ∷ drop (suc i) log
-      unfolding there
-      about =
-          sym (take-append-drop i log)
-          ∙ ap (λ (z : List Msg). take i log ++ z) (drop-cons log i _ inside ∙ ap (λ (z : Msg). z ∷ drop (suc i) log) (sym message))
+      stands : getD log i (msgOf (x .0)) ≡ msgOf (x .0)
+      unfolding next
+      stands = getD-default log i (msgOf (x .0)) _ lies ∙ sym message
 
-      more : take (i + 1) log ≡ take i log ++ msgOf (x .0) ∷ []
-      unfolding there
-      more = take-more log i _ inside ∙ ap (λ (z : Msg). take i log ++ z ∷ []) (sym message)
-
-      pub further : at + x .1 ≡ length (framed (take (i + 1) log))
-      further =
+      ends : at + x .1 ≡ length (framed (take (i + 1) log))
+      ends =
           let f : framed (take (i + 1) log) ≡ framed (take i log) ++ framed (msgOf (x .0) ∷ []) =
-          ap framed more ∙ framed-append (take i log) (msgOf (x .0) ∷ []) in
+          ap framed (more log i (msgOf (x .0)) lies stands) ∙ framed-append (take i log) (msgOf (x .0) ∷ []) in
           let g : length (framed (msgOf (x .0) ∷ [])) ≡ size (msgOf (x .0)) = one (msgOf (x .0)) in
-          omega (arith, ap length f, length-append (framed (take i log)) (framed (msgOf (x .0) ∷ [])), g, takes, before)
+          omega (arith, ap length f, length-append (framed (take i log)) (framed (msgOf (x .0) ∷ [])), g, long, before)
 
-      met : (a b : ℕ) → of (take (i + 1) log) a b ≡ of (take i log) a b ++ cond (goes a b (msgOf (x .0))) (msgOf (x .0) ∷ []) []
-      met a b =
-          ap (λ (z : List Msg). of z a b) more ∙ of-append (take i log) (msgOf (x .0) ∷ []) a b
-          ∙ ap (λ (z : List Msg). of (take i log) a b ++ z) (of-one (msgOf (x .0)) a b)
-
-      pub passes-by : (a b : ℕ) → goes a b (msgOf (x .0)) ≡ false → of (take (i + 1) log) a b ≡ of (take i log) a b
-      passes-by a b t =
-          met a b ∙ ap (λ (z : Bool). of (take i log) a b ++ cond z (msgOf (x .0) ∷ []) []) t ∙ append-nil _
-
-      pub counts-one : (a b : ℕ) → goes a b (msgOf (x .0)) ≡ true → length (of (take (i + 1) log) a b) ≡ length (of (take i log) a b) + 1
-      counts-one a b t =
-          ap length (met a b ∙ ap (λ (z : Bool). of (take i log) a b ++ cond z (msgOf (x .0) ∷ []) []) t)
-          ∙ length-append (of (take i log) a b) (msgOf (x .0) ∷ [])
+      pub turn : Turn log i at x
+      turn = record { inside = lies; there = stands; takes = long; further = ends }
 
 -- every frame was read
 pub all-read : (n : ℕ) (bs : List ℕ) (log : List Msg) → Holds n bs log → (i : ℕ) → n ≤ i → take i log ≡ log

@@ -2,16 +2,14 @@
 use Prim.Native.Nat.{ℕ, suc, _+_, _<_, _≤_}
 use native.Mathlib.Omega.{arith}
 use mathlib.Core.Path.{_≡_, refl, sym, ap, _∙_}
-use mathlib.Core.Bool.{Bool, true, false, cond}
-use mathlib.Core.List.{List, [], _∷_, _++_, map, append-nil}
+use mathlib.Core.Bool.{true}
+use mathlib.Core.List.{List, [], _∷_, _++_, map}
 use lib.Dec.{ltb}
 use lib.ListN.{length, getD, take, drop}
 use Rattle.std.specs.shelf.Lists.{All}
 use Rattle.std.specs.Holes.{removed}
-use Rattle.std.proofs.shelf.Lists.{map-append, take-append-drop, take-map, drop-map, getD-map, length-map, length-append, take-all}
-use Rattle.std.proofs.shelf.Elements.{kept-by-more}
+use Rattle.std.proofs.shelf.Lists.{map-append, take-map, drop-map, getD-map, length-map, take-all}
 use Rattle.std.proofs.shelf.Tests.{lt-ltb, and-from, ne-eqb, not-from-false}
-use lib.Seq.{drop-cons}
 use Rattle.line.specs.declared.message.Message.{Message}
 use Rattle.line.specs.Messages.{Msg}
 use Rattle.line.specs.View.{msgOf}
@@ -33,34 +31,15 @@ in-list-as xs ms i m e at = at ∙ ap (λ (z : List Message). getD z i m) e
 
 -- a place of the list: m stands there
 module _ (ms : List Message) (i : ℕ) (m : Message) (lt : i < length ms) (at : m ≡ getD ms i m) where
-  -- the log about that place
-  pub about : map msgOf ms ≡ take i (map msgOf ms) ++ msgOf m ∷ drop (suc i) (map msgOf ms)
-  about =
-      sym (take-append-drop i (map msgOf ms))
-      ∙ ap (λ (z : List Msg). take i (map msgOf ms) ++ z)
-      (drop-cons (map msgOf ms) i (msgOf m) (rw (length-map ms msgOf) lt)
-      ∙ ap (λ (z : Msg). z ∷ drop (suc i) (map msgOf ms)) (getD-map msgOf ms i m (msgOf m) lt ∙ ap msgOf (sym at)))
+  pub inside : i < length (map msgOf ms)
+  inside = rw (length-map ms msgOf) lt
 
-  -- what the pair has of the log up to and with that place
-  more : (a b : ℕ) → of (take (i + 1) (map msgOf ms)) a b ≡ of (take i (map msgOf ms)) a b ++ cond (goes a b (msgOf m)) (msgOf m ∷ []) []
-  unfolding of
-  more a b =
-      kept-by-more (goes a b) (map msgOf ms) i (msgOf m) (rw (length-map ms msgOf) lt)
-      ∙ ap (λ (z : Msg). of (take i (map msgOf ms)) a b ++ cond (goes a b z) (z ∷ []) []) (getD-map msgOf ms i m (msgOf m) lt ∙ ap msgOf (sym at))
-
-  pub passes-by : (a b : ℕ) → goes a b (msgOf m) ≡ false → of (take (i + 1) (map msgOf ms)) a b ≡ of (take i (map msgOf ms)) a b
-  passes-by a b t =
-      more a b ∙ ap (λ (z : Bool). of (take i (map msgOf ms)) a b ++ cond z (msgOf m ∷ []) []) t ∙ append-nil _
-
-  pub counts-one : (a b : ℕ) → goes a b (msgOf m) ≡ true → length (of (take (i + 1) (map msgOf ms)) a b) ≡ length (of (take i (map msgOf ms)) a b) + 1
-  counts-one a b t =
-      ap length (more a b ∙ ap (λ (z : Bool). of (take i (map msgOf ms)) a b ++ cond z (msgOf m ∷ []) []) t)
-      ∙ length-append (of (take i (map msgOf ms)) a b) (msgOf m ∷ [])
+  pub there : getD (map msgOf ms) i (msgOf m) ≡ msgOf m
+  there = getD-map msgOf ms i m (msgOf m) lt ∙ ap msgOf (sym at)
 
   -- and it is the pair's oldest
   pub found : (a b : ℕ) → of (take i (map msgOf ms)) a b ≡ [] → goes a b (msgOf m) ≡ true → First (map msgOf ms) a b i
-  found a b none t =
-      (rw (length-map ms msgOf) lt, none, λ d. rw (getD-map msgOf ms i m d lt ∙ ap msgOf (sym at)) t)
+  found a b none t = (inside, none, λ d. rw (getD-map msgOf ms i m d lt ∙ ap msgOf (sym at)) t)
 
 -- a place that was found
 module _ (ms : List Message) (i a b : ℕ) (f : First (map msgOf ms) a b i) where

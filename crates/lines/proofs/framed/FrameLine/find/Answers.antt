@@ -11,7 +11,8 @@ use Rattle.lines.specs.Logs.{of}
 use Rattle.lines.proofs.Logs.{of-none}
 use Rattle.lines.proofs.Calls.{is-pair, peeks-none}
 use Rattle.lines.proofs.Framing.{holds-as, short, all-proper}
-use Rattle.lines.proofs.Scan.{none-read, within, read-ok, takes, about, further, passes-by, all-read}
+use Rattle.lines.proofs.Places.{about, passes-by}
+use Rattle.lines.proofs.Scan.{none-read, within, read-ok, turn, all-read}
 use Rattle.lines.proofs.framed.FrameLine.find.Needs as need
 
 pub loop-i-holds : need.loop-i-holds
@@ -34,35 +35,34 @@ unwrap-size-requires c κs =
 pub returns-then-is-between : need.returns-then-is-between
 returns-then-is-between c =
     let h = holds-as _ _ _ (c .args .self .now .whole) (c .as-bytes-bytes .ensures .exact) in
-    let i = c .loop-i .-i in (
+    let t = turn _ _ _ h (c .loop-i .-i) _ (c .loop-i .inv .0) (c .loop-i-test .taken) _ (c .read .ensures .exact) (c .unwrap-size .result) (c .unwrap-size .ensures) in (
       is-pair (c .args .sender) (c .args .receiver) (c .in-Continue-check-pair .ensures tt),
       record {
-        front = take i (log (c .args .self .now));
-        back = drop (suc i) (log (c .args .self .now));
-        about = about _ _ _ h i _ (c .loop-i .inv .0) (c .loop-i-test .taken) _ (c .read .ensures .exact) (c .unwrap-size .result) (c .unwrap-size .ensures);
+        front = take (c .loop-i .-i) (log (c .args .self .now));
+        back = drop (suc (c .loop-i .-i)) (log (c .args .self .now));
+        about = about _ (c .loop-i .-i) _ (t .inside) (t .there);
         none = c .loop-i .inv .1;
         here = sym (c .is-between .ensures) ∙ c .if-is-between .taken;
         from = c .loop-i .inv .0;
-        takes = takes _ _ _ h i _ (c .loop-i .inv .0) (c .loop-i-test .taken) _ (c .read .ensures .exact) (c .unwrap-size .result) (c .unwrap-size .ensures);
+        takes = t .takes;
       },
     )
 
 pub add-at : need.add-at
 add-at c =
     let h = holds-as _ _ _ (c .args .self .now .whole) (c .as-bytes-bytes .ensures .exact) in
-    let f = further _ _ _ h (c .loop-i .-i) _ (c .loop-i .inv .0) (c .loop-i-test .taken) _ (c .read .ensures .exact) (c .unwrap-size .result) (c .unwrap-size .ensures) in
-    let w = within _ _ _ h (c .loop-i .-i + 1) _ f in
+    let t = turn _ _ _ h (c .loop-i .-i) _ (c .loop-i .inv .0) (c .loop-i-test .taken) _ (c .read .ensures .exact) (c .unwrap-size .result) (c .unwrap-size .ensures) in
+    let w = within _ _ _ h (c .loop-i .-i + 1) _ (t .further) in
     let s = short _ _ _ h in
     let few = c .args .self .now .few in
     search needs
 
 pub loop-i-again : need.loop-i-again
 loop-i-again c =
-    let h = holds-as _ _ _ (c .args .self .now .whole) (c .as-bytes-bytes .ensures .exact) in (
-      further _ _ _ h (c .loop-i .-i) _ (c .loop-i .inv .0) (c .loop-i-test .taken) _ (c .read .ensures .exact) (c .unwrap-size .result) (c .unwrap-size .ensures),
-      passes-by _ _ _ h (c .loop-i .-i) _ (c .loop-i .inv .0) (c .loop-i-test .taken) _ (c .read .ensures .exact) (c .unwrap-size .result) (c .unwrap-size .ensures)
-          (c .args .sender) (c .args .receiver) (sym (c .is-between .ensures) ∙ c .if-is-between .left)
-          ∙ c .loop-i .inv .1,
+    let h = holds-as _ _ _ (c .args .self .now .whole) (c .as-bytes-bytes .ensures .exact) in
+    let t = turn _ _ _ h (c .loop-i .-i) _ (c .loop-i .inv .0) (c .loop-i-test .taken) _ (c .read .ensures .exact) (c .unwrap-size .result) (c .unwrap-size .ensures) in (
+      t .further,
+      passes-by _ (c .loop-i .-i) _ (t .inside) (t .there) (c .args .sender) (c .args .receiver) (sym (c .is-between .ensures) ∙ c .if-is-between .left) ∙ c .loop-i .inv .1,
     )
 
 pub returns : need.returns

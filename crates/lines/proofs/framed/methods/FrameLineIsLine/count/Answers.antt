@@ -11,7 +11,8 @@ use Rattle.lines.specs.Logs.{of}
 use Rattle.lines.proofs.Calls.{is-pair, counts}
 use Rattle.lines.proofs.Logs.{of-none}
 use Rattle.lines.proofs.Framing.{holds-as, short, all-proper}
-use Rattle.lines.proofs.Scan.{none-read, within, read-ok, further, passes-by, counts-one, all-read}
+use Rattle.lines.proofs.Places.{passes-by, counts-one}
+use Rattle.lines.proofs.Scan.{none-read, within, read-ok, turn, all-read}
 use Rattle.lines.proofs.framed.methods.FrameLineIsLine.count.Needs as need
 use Rattle.lines.proofs.framed.methods.FrameLineIsLine.count.Needs.{then-is-between, else-is-between}
 
@@ -38,8 +39,8 @@ unwrap-size-requires c κs =
 pub add-at : need.add-at
 add-at c =
     let h = holds-as _ _ _ (c .args .self .now .whole) (c .as-bytes-bytes .ensures .exact) in
-    let f = further _ _ _ h (c .loop-i .-i) _ (c .loop-i .inv .0) (c .loop-i-test .taken) _ (c .read .ensures .exact) (c .unwrap-size .result) (c .unwrap-size .ensures) in
-    let w = within _ _ _ h (c .loop-i .-i + 1) _ f in
+    let t = turn _ _ _ h (c .loop-i .-i) _ (c .loop-i .inv .0) (c .loop-i-test .taken) _ (c .read .ensures .exact) (c .unwrap-size .result) (c .unwrap-size .ensures) in
+    let w = within _ _ _ h (c .loop-i .-i + 1) _ (t .further) in
     let s = short _ _ _ h in
     let few = c .args .self .now .few in
     search needs
@@ -47,16 +48,14 @@ add-at c =
 pub loop-i-again : need.loop-i-again
 loop-i-again c =
     let h = holds-as _ _ _ (c .args .self .now .whole) (c .as-bytes-bytes .ensures .exact) in
-    let f = further _ _ _ h (c .loop-i .-i) _ (c .loop-i .inv .0) (c .loop-i-test .taken) _ (c .read .ensures .exact) (c .unwrap-size .result) (c .unwrap-size .ensures) in
+    let t = turn _ _ _ h (c .loop-i .-i) _ (c .loop-i .inv .0) (c .loop-i-test .taken) _ (c .read .ensures .exact) (c .unwrap-size .result) (c .unwrap-size .ensures) in
     elim (c .if-is-between .came) [
       | then-is-between w ↦
-          let m = counts-one _ _ _ h (c .loop-i .-i) _ (c .loop-i .inv .0) (c .loop-i-test .taken) _ (c .read .ensures .exact) (c .unwrap-size .result) (c .unwrap-size .ensures)
-          (c .args .sender) (c .args .receiver) (sym (c .is-between .ensures) ∙ w .if-is-between .taken) in
-          (f, omega (arith, m, w .found-is, c .loop-i .inv .1), omega (arith, w .found-is, c .loop-i .inv .2))
+          let m = counts-one _ (c .loop-i .-i) _ (t .inside) (t .there) (c .args .sender) (c .args .receiver) (sym (c .is-between .ensures) ∙ w .if-is-between .taken) in
+          (t .further, omega (arith, m, w .found-is, c .loop-i .inv .1), omega (arith, w .found-is, c .loop-i .inv .2))
       | else-is-between w ↦
-          let m = ap length (passes-by _ _ _ h (c .loop-i .-i) _ (c .loop-i .inv .0) (c .loop-i-test .taken) _ (c .read .ensures .exact) (c .unwrap-size .result) (c .unwrap-size .ensures)
-          (c .args .sender) (c .args .receiver) (sym (c .is-between .ensures) ∙ w .if-is-between .left)) in
-          (f, omega (arith, m, w .found-is, c .loop-i .inv .1), omega (arith, w .found-is, c .loop-i .inv .2))
+          let m = ap length (passes-by _ (c .loop-i .-i) _ (t .inside) (t .there) (c .args .sender) (c .args .receiver) (sym (c .is-between .ensures) ∙ w .if-is-between .left)) in
+          (t .further, omega (arith, m, w .found-is, c .loop-i .inv .1), omega (arith, w .found-is, c .loop-i .inv .2))
     ]
 
 pub returns : need.returns

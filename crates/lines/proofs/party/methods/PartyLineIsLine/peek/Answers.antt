@@ -4,7 +4,8 @@ use lib.ListN.{take, drop}
 use Prim.Native.Nat.{suc}
 use Rattle.line.specs.View.{msgOf}
 use Rattle.lines.proofs.Calls.{peeks}
-use Rattle.lines.proofs.Store.{all-proper, about, in-list, of-pair}
+use Rattle.lines.proofs.Places.{about}
+use Rattle.lines.proofs.Store.{all-proper, inside, there, in-list, of-pair}
 use Rattle.lines.proofs.party.methods.PartyLineIsLine.peek.Needs as need
 
 pub index-requires : need.index-requires
@@ -17,7 +18,8 @@ returns c =
     let ms = c .args .self .now .messages .items in
     let i = c .in-Continue-oldest .oldest in
     let f = c .in-Continue-oldest .ensures tt in
+    let lt = in-list ms i (c .args .sender) (c .args .receiver) (f .1) in
     peeks (map msgOf ms) (all-proper ms) (c .args .sender) (c .args .receiver) (f .0)
     (take i (map msgOf ms)) _ (drop (suc i) (map msgOf ms))
-    (about ms i (c .index .result .now) (in-list ms i (c .args .sender) (c .args .receiver) (f .1)) (c .index .ensures)) (f .1 .1)
+    (about (map msgOf ms) i _ (inside ms i (c .index .result .now) lt (c .index .ensures)) (there ms i (c .index .result .now) lt (c .index .ensures))) (f .1 .1)
     (of-pair ms i (c .args .sender) (c .args .receiver) (f .1) (c .index .result .now) (c .index .ensures))
