@@ -3,6 +3,9 @@
 /// The part of the product that refuses.
 #[derive(Clone, Copy)]
 pub enum Layer {
+    /// Reading a plan.
+    Plan,
+    /// Lines and frames.
     Line,
 }
 

@@ -1,0 +1,6 @@
+pub mod Lists
+pub mod Sheets
+pub mod Letters
+pub mod Pages
+pub mod Whole
+pub mod Down
