@@ -1,4 +1,6 @@
 // What is delivered to one station.
+#![tactic(auto)]
+
 mod arrival;
 mod receive;
 

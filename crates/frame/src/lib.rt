@@ -1,4 +1,6 @@
 // Messages as frames of bytes: five words and the text.
+#![tactic(auto)]
+
 mod codec;
 mod exports;
 mod fault;

@@ -1,4 +1,6 @@
 // Prints a capture of frames in words, and sends its messages over both kinds of line.
+#![tactic(auto)]
+
 use frame::FrameFault;
 use line::{Line, LineFault, Message, Place, Refusal, capacity};
 use lines::{FrameLine, PartyLine};

@@ -1,4 +1,6 @@
 // Messages between stations, and what a line of them is.
+#![tactic(auto)]
+
 ghost use Rattle.std.specs.Prelude.{◌≡◌, ℕ, ◌+◌, ◌≤◌, map, length, Ok};
 ghost use Rattle.std.specs.Result.{result_map_both};
 ghost use Rattle.line.specs.Refusals.{told};

@@ -1,4 +1,6 @@
 // The two kinds of line.
+#![tactic(auto)]
+
 mod between;
 mod framed;
 mod party;

@@ -1,4 +1,6 @@
 // What a station notes of a page.
+#![tactic(auto)]
+
 mod queue;
 mod row;
 mod set;

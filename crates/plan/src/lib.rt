@@ -1,4 +1,6 @@
 // Reading a plan: the stations' letters, and each page's home, length and text.
+#![tactic(auto)]
+
 mod fault;
 mod plan;
 mod read;

@@ -1,4 +1,6 @@
 // The calls of one station on its own rows.
+#![tactic(auto)]
+
 mod fault;
 mod finish;
 mod room;

@@ -1,4 +1,6 @@
 // The steps that a station's calls and deliveries are made of.
+#![tactic(auto)]
+
 mod away;
 mod home;
 mod post;

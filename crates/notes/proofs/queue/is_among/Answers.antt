@@ -4,10 +4,10 @@ use Rattle.notes.specs.Queues.{entries, queued}
 use Rattle.notes.proofs.Slots.{scan_free, scan_found, scan_goes}
 use Rattle.notes.proofs.queue.is_among.Goals as goal
 
-pub returns-in-default : goal.returns-in-default
-returns-in-default c =
+pub returns-in_default : goal.returns-in_default
+returns-in_default c =
     let lt : c.loop-slot.slot-index < length c.args.slots.now = c.loop-slot-test.true in
-    sym (c.loop-slot.invariant ∙ scan_free c.args.slots.now c.loop-slot.slot-index c.args.station lt c.in-default.is)
+    sym (c.loop-slot.invariant ∙ scan_free c.args.slots.now c.loop-slot.slot-index c.args.station lt c.in_default.is)
 
 pub returns-then-entry-station : goal.returns-then-entry-station
 returns-then-entry-station c =

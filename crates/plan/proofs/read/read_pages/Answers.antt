@@ -11,15 +11,15 @@ loop-i-preserved c = (
   length-set c.loop-i.page c.loop-i.i _ ∙ c.loop-i.invariant.0,
   c.page.ensures.same ∙ c.loop-i.invariant.1,
   goes_on c.args.pages _ _ _ c.loop-i.i _ c.loop-i.page c.loop-i.invariant.2 c.loop-i-test.true _ c.loop-i.invariant.1
-      _ _ (omega (arith, c.loop-i.invariant.0, c.requires, c.loop-i-test.true)) c.in-ok-page.ensures.value,
+      _ _ (omega (arith, c.loop-i.invariant.0, c.requires, c.loop-i-test.true)) c.in_ok-page.ensures.value,
 )
 
-pub returns-in-err-page : goal.returns-in-err-page
-returns-in-err-page c =
-    let p = err_from_is_err_and c.from-residual.result c.from-residual.ensures.1 in
+pub returns-in_err-page : goal.returns-in_err-page
+returns-in_err-page c =
+    let p = err_from_is_err_and c.from_residual.result c.from_residual.ensures.1 in
     record {
       value = rw (p.1, p.2) (stops c.args.pages _ _ _ c.loop-i.i _ c.loop-i.page c.loop-i.invariant.2 c.loop-i-test.true _ c.loop-i.invariant.1
-          _ c.in-err-page.ensures.value);
+          _ c.in_err-page.ensures.value);
       same = c.page.ensures.same ∙ c.loop-i.invariant.1;
     }
 

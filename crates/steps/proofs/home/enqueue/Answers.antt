@@ -11,8 +11,8 @@ use Rattle.steps.proofs.home.enqueue.Goals as goal
 pub push-requires : goal.push-requires
 push-requires g c = place_left _ c.args.station c.requires.sound.apart c.requires.station c.requires.new
 
-pub serve-queue-requires : goal.serve-queue-requires
-serve-queue-requires g c =
+pub serve_queue-requires : goal.serve_queue-requires
+serve_queue-requires g c =
     let r = notes_of c.args.row.now in
     record {
       sound = subst (λ (q : List Entry). Sound c.args.site.home (notes r.copy r.changed r.recall r.standing (home_notes r.home.mode r.home.holders r.home.awaited q)))

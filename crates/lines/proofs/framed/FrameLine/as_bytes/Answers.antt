@@ -6,6 +6,6 @@ pub returns : goal.returns
 returns c =
     let h = holds _ _ c.args.self.now.whole in
     record {
-      exact = c.as-slice.ensures.value ∙ h.bytes;
-      within = omega (arith, ap length c.as-slice.ensures.value, short _ _ _ h, c.args.self.now.few);
+      exact = c.as_slice.ensures.value ∙ h.bytes;
+      within = omega (arith, ap length c.as_slice.ensures.value, short _ _ _ h, c.args.self.now.few);
     }

@@ -6,12 +6,12 @@ use Rattle.lines.proofs.Logs.{none}
 use Rattle.lines.proofs.Framing.{holds_none, whole_of, log_of}
 use Rattle.lines.proofs.framed.FrameLine.new.Goals as goal
 
-pub invariant-of-result : goal.invariant-of-result
-invariant-of-result c =
-    let e = c.in-ok-frames.ensures in
+pub invariant_of-result : goal.invariant_of-result
+invariant_of-result c =
+    let e = c.in_ok-frames.ensures in
     (omega arith, (e.capacity, (whole_of 0 _ [] (holds_none _ e.items), tt)))
 
 pub returns : goal.returns
 returns c =
-    let e = c.in-ok-frames.ensures in
+    let e = c.in_ok-frames.ensures in
     ap (λ (z : List Msg). paired (of z)) (log_of 0 _ [] (holds_none _ e.items)) ∙ none

@@ -12,16 +12,16 @@ use Rattle.lines.proofs.party.PartyLine.find.Goals as goal
 pub loop-i-init : goal.loop-i-init
 loop-i-init c = ap (λ (w : Lists). w c.args.sender c.args.receiver) of_none
 
-pub returns-then-is-between : goal.returns-then-is-between
-returns-then-is-between c =
+pub returns-then-is_between : goal.returns-then-is_between
+returns-then-is_between c =
     let ms = c.args.self.now.messages.items in
     let m = c.message-item.result in
     let i = c.loop-i.i in
-    let e = c.as-slice-message-items.ensures.value in
+    let e = c.as_slice-message-items.ensures.value in
     let lt : i < length ms = omega (arith, ap length e, c.loop-i-test.true) in
     let at = in_list_as _ ms i m e c.message-item.is in (
-      is_pair c.args.sender c.args.receiver c.in-ok-check-pair.ensures,
-      found ms i m lt at c.args.sender c.args.receiver c.loop-i.invariant (sym c.if-is-between.ensures),
+      is_pair c.args.sender c.args.receiver c.in_ok-check_pair.ensures,
+      found ms i m lt at c.args.sender c.args.receiver c.loop-i.invariant (sym c.if-is_between.ensures),
     )
 
 pub loop-i-preserved : goal.loop-i-preserved
@@ -29,17 +29,17 @@ loop-i-preserved c =
     let ms = c.args.self.now.messages.items in
     let m = c.message-item.result in
     let i = c.loop-i.i in
-    let e = c.as-slice-message-items.ensures.value in
+    let e = c.as_slice-message-items.ensures.value in
     let lt : i < length ms = omega (arith, ap length e, c.loop-i-test.true) in
     let at = in_list_as _ ms i m e c.message-item.is in
-    passes_by (log c.args.self.now) i _ (inside ms i m lt at) (there ms i m lt at) c.args.sender c.args.receiver (sym c.if-is-between.ensures)
+    passes_by (log c.args.self.now) i _ (inside ms i m lt at) (there ms i m lt at) c.args.sender c.args.receiver (sym c.if-is_between.ensures)
     ∙ c.loop-i.invariant
 
 pub returns : goal.returns
 returns c =
-    let e = c.as-slice-message-items.ensures.value in
+    let e = c.as_slice-message-items.ensures.value in
     peeks_none (log c.args.self.now) (all_proper c.args.self.now.messages.items) c.args.sender c.args.receiver
-    (is_pair c.args.sender c.args.receiver c.in-ok-check-pair.ensures)
+    (is_pair c.args.sender c.args.receiver c.in_ok-check_pair.ensures)
     (ap (λ (z : List Msg). of z c.args.sender c.args.receiver)
     (sym (whole c.args.self.now.messages.items c.loop-i.i (omega (arith, ap length e, c.loop-i-test.false))))
     ∙ c.loop-i.invariant)

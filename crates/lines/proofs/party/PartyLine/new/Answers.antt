@@ -7,4 +7,4 @@ use Rattle.lines.proofs.Logs.{none}
 use Rattle.lines.proofs.party.PartyLine.new.Goals as goal
 
 pub returns : goal.returns
-returns c = ap (λ (z : List Message). paired (of (map msg_of z))) c.in-ok-messages.ensures.items ∙ none
+returns c = ap (λ (z : List Message). paired (of (map msg_of z))) c.in_ok-messages.ensures.items ∙ none

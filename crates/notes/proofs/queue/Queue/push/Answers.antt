@@ -9,19 +9,19 @@ loop-i-init c = (refl, none_passed _)
 pub returns-then-i-lt7 : goal.returns-then-i-lt7
 returns-then-i-lt7 c =
     let lt : suc c.loop-i.i < length c.loop-i.self.slots = search rules in
-    rw add-one (pushed c.loop-i.i c.loop-i.self.slots c.args.entry lt c.loop-i.invariant.1 (free _ _ c.is-none.ensures c.if-is-none.true))
+    rw add-one (pushed c.loop-i.i c.loop-i.self.slots c.args.entry lt c.loop-i.invariant.1 (free _ _ c.is_none.ensures c.if-is_none.true))
     ∙ ap (λ xs. entries xs ++ c.args.entry ∷ []) c.loop-i.invariant.0
 
 pub returns-else-i-lt7 : goal.returns-else-i-lt7
 returns-else-i-lt7 c =
     let e : suc c.loop-i.i ≡ length c.loop-i.self.slots = search rules in
-    pushed_last c.loop-i.i c.loop-i.self.slots c.args.entry e c.loop-i.invariant.1 (free _ _ c.is-none.ensures c.if-is-none.true)
+    pushed_last c.loop-i.i c.loop-i.self.slots c.args.entry e c.loop-i.invariant.1 (free _ _ c.is_none.ensures c.if-is_none.true)
     ∙ ap (λ xs. entries xs ++ c.args.entry ∷ []) c.loop-i.invariant.0
 
 pub loop-i-preserved : goal.loop-i-preserved
 loop-i-preserved c =
     let lt : c.loop-i.i < length c.loop-i.self.slots = search rules in
-    let t = taken _ _ c.is-none.ensures c.if-is-none.false in
+    let t = taken _ _ c.is_none.ensures c.if-is_none.false in
     (c.loop-i.invariant.0, rw add-one (passes c.loop-i.i c.loop-i.self.slots t.0 lt c.loop-i.invariant.1 t.1))
 
 pub returns : goal.returns

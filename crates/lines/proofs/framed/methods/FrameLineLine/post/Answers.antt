@@ -14,31 +14,31 @@ use Rattle.lines.proofs.Framing.{holds, all_proper, fits_proper, whole_of, log_o
 use Rattle.lines.proofs.Buffer.{front, no_longer, holds_push}
 use Rattle.lines.proofs.framed.methods.FrameLineLine.post.Goals as goal
 
-pub returns-then-is-full : goal.returns-then-is-full
-returns-then-is-full c =
+pub returns-then-is_full : goal.returns-then-is_full
+returns-then-is_full c =
     let h = holds _ _ c.args.self.now.whole in
     ◌∙◌ {A = Change} (λ i. (Err (refused 16 (Pair (c.sender.ensures i) (c.receiver.ensures i))), paired (of (log c.args.self.now))))
-    (full (log c.args.self.now) (all_proper _ h.fit) 256 (msg_of c.args.message) (omega (arith, h.many, leb-true 256 _ (sym c.if-is-full.ensures))))
+    (full (log c.args.self.now) (all_proper _ h.fit) 256 (msg_of c.args.message) (omega (arith, h.many, leb-true 256 _ (sym c.if-is_full.ensures))))
 
 pub unwrap-requires : goal.unwrap-requires
 unwrap-requires c =
     let h = holds _ _ c.args.self.now.whole in
     let m = msg_of c.args.message in
-    let n : length (take (c.unwrap-size.result - 0) c.write.new.out) ≡ size m =
-    ap length (front m (replicate 84 0) c.write.new.out c.write.result c.unwrap-size.result c.write.ensures.exact c.unwrap-size.ensures) ∙ omega arith in
-    c.extend-from-slice.ensures.succeeds
-    (omega (arith, n, no_longer m (sound c.args.message), Framing.short _ _ _ h, c.args.self.now.frames.ok.0, c.args.self.now.reserved, leb-false 256 _ (sym c.if-is-full.ensures)))
+    let n : length (take (c.unwrap_size.result - 0) c.write.new.out) ≡ size m =
+    ap length (front m (replicate 84 0) c.write.new.out c.write.result c.unwrap_size.result c.write.ensures.exact c.unwrap_size.ensures) ∙ omega arith in
+    c.extend_from_slice.ensures.succeeds
+    (omega (arith, n, no_longer m (sound c.args.message), Framing.short _ _ _ h, c.args.self.now.frames.ok.0, c.args.self.now.reserved, leb-false 256 _ (sym c.if-is_full.ensures)))
 
-pub invariant-of-self : goal.invariant-of-self
-invariant-of-self c =
+pub invariant_of-self : goal.invariant_of-self
+invariant_of-self c =
     let h = holds _ _ c.args.self.now.whole in
     let m = msg_of c.args.message in
-    let items = c.extend-from-slice.ensures.items ∙ cond-true (is_ok c.extend-from-slice.result) _ _ (ap is_ok c.unwrap.ensures) in (
-      omega (arith, leb-false 256 _ (sym c.if-is-full.ensures)),
+    let items = c.extend_from_slice.ensures.items ∙ cond-true (is_ok c.extend_from_slice.result) _ _ (ap is_ok c.unwrap.ensures) in (
+      omega (arith, leb-false 256 _ (sym c.if-is_full.ensures)),
       (
-        omega (arith, c.extend-from-slice.ensures.capacity, c.args.self.now.reserved),
+        omega (arith, c.extend_from_slice.ensures.capacity, c.args.self.now.reserved),
         (
-          whole_of _ _ _ (holds_push _ _ _ m _ _ h (sound c.args.message) (front m (replicate 84 0) c.write.new.out c.write.result c.unwrap-size.result c.write.ensures.exact c.unwrap-size.ensures) items),
+          whole_of _ _ _ (holds_push _ _ _ m _ _ h (sound c.args.message) (front m (replicate 84 0) c.write.new.out c.write.result c.unwrap_size.result c.write.ensures.exact c.unwrap_size.ensures) items),
           tt,
         ),
       ),
@@ -48,7 +48,7 @@ pub returns : goal.returns
 returns c =
     let h = holds _ _ c.args.self.now.whole in
     let m = msg_of c.args.message in
-    let items = c.extend-from-slice.ensures.items ∙ cond-true (is_ok c.extend-from-slice.result) _ _ (ap is_ok c.unwrap.ensures) in
+    let items = c.extend_from_slice.ensures.items ∙ cond-true (is_ok c.extend_from_slice.result) _ _ (ap is_ok c.unwrap.ensures) in
     posts (log c.args.self.now) (all_proper _ h.fit) 256 m _ (fits_proper m (sound c.args.message))
-    (omega (arith, h.many, leb-false 256 _ (sym c.if-is-full.ensures)))
-    (log_of _ _ _ (holds_push _ _ _ m _ _ h (sound c.args.message) (front m (replicate 84 0) c.write.new.out c.write.result c.unwrap-size.result c.write.ensures.exact c.unwrap-size.ensures) items))
+    (omega (arith, h.many, leb-false 256 _ (sym c.if-is_full.ensures)))
+    (log_of _ _ _ (holds_push _ _ _ m _ _ h (sound c.args.message) (front m (replicate 84 0) c.write.new.out c.write.result c.unwrap_size.result c.write.ensures.exact c.unwrap_size.ensures) items))

@@ -7,14 +7,14 @@ use Rattle.lines.proofs.party.methods.PartyLineLine.peek.Goals as goal
 
 pub index-requires : goal.index-requires
 index-requires c =
-    let f = c.in-ok-oldest.ensures in
-    omega (arith, in_list c.args.self.now.messages.items c.in-ok-oldest.oldest c.args.sender c.args.receiver f.1, c.args.self.now.messages.ok.0)
+    let f = c.in_ok-oldest.ensures in
+    omega (arith, in_list c.args.self.now.messages.items c.in_ok-oldest.oldest c.args.sender c.args.receiver f.1, c.args.self.now.messages.ok.0)
 
 pub returns : goal.returns
 returns c =
     let ms = c.args.self.now.messages.items in
-    let i = c.in-ok-oldest.oldest in
-    let f = c.in-ok-oldest.ensures in
+    let i = c.in_ok-oldest.oldest in
+    let f = c.in_ok-oldest.ensures in
     let lt = in_list ms i c.args.sender c.args.receiver f.1 in
     peeks (map msg_of ms) (all_proper ms) c.args.sender c.args.receiver f.0
     (take i (map msg_of ms)) _ (drop (suc i) (map msg_of ms))
