@@ -16,26 +16,26 @@ loop-i-init c =
 
 pub slice_bounds-read-count : goal.slice_bounds-read-count
 slice_bounds-read-count c =
-    within _ _ _ (holds_as _ _ _ c.args.self.now.whole c.as_bytes-bytes.ensures.exact) c.loop-i.-i _ c.loop-i.invariant.0
+    within _ _ _ (holds_as _ _ _ c.args.self.now.whole c.as_bytes-bytes.ensures.exact) c.loop-i._i _ c.loop-i.invariant.0
 
 pub slice_bounds-read-start : goal.slice_bounds-read-start
 slice_bounds-read-start c =
-    within _ _ _ (holds_as _ _ _ c.args.self.now.whole c.as_bytes-bytes.ensures.exact) c.loop-i.-i _ c.loop-i.invariant.0
+    within _ _ _ (holds_as _ _ _ c.args.self.now.whole c.as_bytes-bytes.ensures.exact) c.loop-i._i _ c.loop-i.invariant.0
 
-pub unwrap_size-requires : goal.unwrap_size-requires
-unwrap_size-requires c =
-    read_ok _ _ _ (holds_as _ _ _ c.args.self.now.whole c.as_bytes-bytes.ensures.exact) c.loop-i.-i _ c.loop-i.invariant.0
+pub unwrap-size-requires : goal.unwrap-size-requires
+unwrap-size-requires c =
+    read_ok _ _ _ (holds_as _ _ _ c.args.self.now.whole c.as_bytes-bytes.ensures.exact) c.loop-i._i _ c.loop-i.invariant.0
     c.loop-i-test.true _ c.read.ensures.exact
 
 pub returns-then-is_between : goal.returns-then-is_between
 returns-then-is_between c =
     let h = holds_as _ _ _ c.args.self.now.whole c.as_bytes-bytes.ensures.exact in
-    let t = turn _ _ _ h c.loop-i.-i _ c.loop-i.invariant.0 c.loop-i-test.true _ c.read.ensures.exact c.unwrap_size.result c.unwrap_size.ensures in (
+    let t = turn _ _ _ h c.loop-i._i _ c.loop-i.invariant.0 c.loop-i-test.true _ c.read.ensures.exact c.unwrap-size.result c.unwrap-size.ensures in (
       is_pair c.args.sender c.args.receiver c.in_ok-check_pair.ensures,
       record {
-        front = take c.loop-i.-i (log c.args.self.now);
-        back = drop (suc c.loop-i.-i) (log c.args.self.now);
-        about = about _ c.loop-i.-i _ t.inside t.there;
+        front = take c.loop-i._i (log c.args.self.now);
+        back = drop (suc c.loop-i._i) (log c.args.self.now);
+        about = about _ c.loop-i._i _ t.inside t.there;
         none = c.loop-i.invariant.1;
         here = sym c.is_between.ensures ∙ c.if-is_between.true;
         from = c.loop-i.invariant.0;
@@ -46,8 +46,8 @@ returns-then-is_between c =
 pub overflow_add-at : goal.overflow_add-at
 overflow_add-at c =
     let h = holds_as _ _ _ c.args.self.now.whole c.as_bytes-bytes.ensures.exact in
-    let t = turn _ _ _ h c.loop-i.-i _ c.loop-i.invariant.0 c.loop-i-test.true _ c.read.ensures.exact c.unwrap_size.result c.unwrap_size.ensures in
-    let w = within _ _ _ h (c.loop-i.-i + 1) _ t.further in
+    let t = turn _ _ _ h c.loop-i._i _ c.loop-i.invariant.0 c.loop-i-test.true _ c.read.ensures.exact c.unwrap-size.result c.unwrap-size.ensures in
+    let w = within _ _ _ h (c.loop-i._i + 1) _ t.further in
     let s = short _ _ _ h in
     let few = c.args.self.now.few in
     search rules
@@ -55,14 +55,14 @@ overflow_add-at c =
 pub loop-i-preserved : goal.loop-i-preserved
 loop-i-preserved c =
     let h = holds_as _ _ _ c.args.self.now.whole c.as_bytes-bytes.ensures.exact in
-    let t = turn _ _ _ h c.loop-i.-i _ c.loop-i.invariant.0 c.loop-i-test.true _ c.read.ensures.exact c.unwrap_size.result c.unwrap_size.ensures in (
+    let t = turn _ _ _ h c.loop-i._i _ c.loop-i.invariant.0 c.loop-i-test.true _ c.read.ensures.exact c.unwrap-size.result c.unwrap-size.ensures in (
       t.further,
-      passes_by _ c.loop-i.-i _ t.inside t.there c.args.sender c.args.receiver (sym c.is_between.ensures ∙ c.if-is_between.false) ∙ c.loop-i.invariant.1,
+      passes_by _ c.loop-i._i _ t.inside t.there c.args.sender c.args.receiver (sym c.is_between.ensures ∙ c.if-is_between.false) ∙ c.loop-i.invariant.1,
     )
 
 pub returns : goal.returns
 returns c =
     let h = holds_as _ _ _ c.args.self.now.whole c.as_bytes-bytes.ensures.exact in
     peeks_none (log c.args.self.now) (all_proper _ h.fit) c.args.sender c.args.receiver (is_pair c.args.sender c.args.receiver c.in_ok-check_pair.ensures)
-    (ap (λ (z : List Msg). of z c.args.sender c.args.receiver) (sym (all_read _ _ _ h c.loop-i.-i c.loop-i-test.false))
+    (ap (λ (z : List Msg). of z c.args.sender c.args.receiver) (sym (all_read _ _ _ h c.loop-i._i c.loop-i-test.false))
     ∙ c.loop-i.invariant.1)

@@ -6,4 +6,4 @@ use Rattle.lines.proofs.framed.FrameLine.find.Given as goal
 
 -- the frames so far, none of the pair's
 abbrev pub invariant-loop-i : goal.invariant-loop-i
-invariant-loop-i l = (l.at ≡ length (framed (take l.-i (log l.self)))) × (of (take l.-i (log l.self)) l.sender l.receiver ≡ [])
+invariant-loop-i l = (l.at ≡ length (framed (take l._i (log l.self)))) × (of (take l._i (log l.self)) l.sender l.receiver ≡ [])

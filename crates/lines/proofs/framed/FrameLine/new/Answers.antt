@@ -9,7 +9,7 @@ use Rattle.lines.proofs.framed.FrameLine.new.Goals as goal
 pub invariant_of-result : goal.invariant_of-result
 invariant_of-result c =
     let e = c.in_ok-frames.ensures in
-    (omega arith, (e.capacity, (whole_of 0 _ [] (holds_none _ e.items), tt)))
+    record { few = omega arith; reserved = e.capacity; whole = whole_of 0 _ [] (holds_none _ e.items) }
 
 pub returns : goal.returns
 returns c =

@@ -20,22 +20,22 @@ loop-i-init c = (
 
 pub slice_bounds-read-count : goal.slice_bounds-read-count
 slice_bounds-read-count c =
-    within _ _ _ (holds_as _ _ _ c.args.self.now.whole c.as_bytes-bytes.ensures.exact) c.loop-i.-i _ c.loop-i.invariant.0
+    within _ _ _ (holds_as _ _ _ c.args.self.now.whole c.as_bytes-bytes.ensures.exact) c.loop-i._i _ c.loop-i.invariant.0
 
 pub slice_bounds-read-start : goal.slice_bounds-read-start
 slice_bounds-read-start c =
-    within _ _ _ (holds_as _ _ _ c.args.self.now.whole c.as_bytes-bytes.ensures.exact) c.loop-i.-i _ c.loop-i.invariant.0
+    within _ _ _ (holds_as _ _ _ c.args.self.now.whole c.as_bytes-bytes.ensures.exact) c.loop-i._i _ c.loop-i.invariant.0
 
-pub unwrap_size-requires : goal.unwrap_size-requires
-unwrap_size-requires c =
-    read_ok _ _ _ (holds_as _ _ _ c.args.self.now.whole c.as_bytes-bytes.ensures.exact) c.loop-i.-i _ c.loop-i.invariant.0
+pub unwrap-size-requires : goal.unwrap-size-requires
+unwrap-size-requires c =
+    read_ok _ _ _ (holds_as _ _ _ c.args.self.now.whole c.as_bytes-bytes.ensures.exact) c.loop-i._i _ c.loop-i.invariant.0
     c.loop-i-test.true _ c.read.ensures.exact
 
 pub overflow_add-at : goal.overflow_add-at
 overflow_add-at c =
     let h = holds_as _ _ _ c.args.self.now.whole c.as_bytes-bytes.ensures.exact in
-    let t = turn _ _ _ h c.loop-i.-i _ c.loop-i.invariant.0 c.loop-i-test.true _ c.read.ensures.exact c.unwrap_size.result c.unwrap_size.ensures in
-    let w = within _ _ _ h (c.loop-i.-i + 1) _ t.further in
+    let t = turn _ _ _ h c.loop-i._i _ c.loop-i.invariant.0 c.loop-i-test.true _ c.read.ensures.exact c.unwrap-size.result c.unwrap-size.ensures in
+    let w = within _ _ _ h (c.loop-i._i + 1) _ t.further in
     let s = short _ _ _ h in
     let few = c.args.self.now.few in
     search rules
@@ -43,13 +43,13 @@ overflow_add-at c =
 pub loop-i-preserved : goal.loop-i-preserved
 loop-i-preserved c =
     let h = holds_as _ _ _ c.args.self.now.whole c.as_bytes-bytes.ensures.exact in
-    let t = turn _ _ _ h c.loop-i.-i _ c.loop-i.invariant.0 c.loop-i-test.true _ c.read.ensures.exact c.unwrap_size.result c.unwrap_size.ensures in
+    let t = turn _ _ _ h c.loop-i._i _ c.loop-i.invariant.0 c.loop-i-test.true _ c.read.ensures.exact c.unwrap-size.result c.unwrap-size.ensures in
     elim c.if-is_between.branch [
       | then-is_between w ↦
-          let m = counts_one _ c.loop-i.-i _ t.inside t.there c.args.sender c.args.receiver (sym c.is_between.ensures ∙ w.if-is_between.true) in
+          let m = counts_one _ c.loop-i._i _ t.inside t.there c.args.sender c.args.receiver (sym c.is_between.ensures ∙ w.if-is_between.true) in
           (t.further, omega (arith, m, w.found-is, c.loop-i.invariant.1), omega (arith, w.found-is, c.loop-i.invariant.2))
       | else-is_between w ↦
-          let m = ap length (passes_by _ c.loop-i.-i _ t.inside t.there c.args.sender c.args.receiver (sym c.is_between.ensures ∙ w.if-is_between.false)) in
+          let m = ap length (passes_by _ c.loop-i._i _ t.inside t.there c.args.sender c.args.receiver (sym c.is_between.ensures ∙ w.if-is_between.false)) in
           (t.further, omega (arith, m, w.found-is, c.loop-i.invariant.1), omega (arith, w.found-is, c.loop-i.invariant.2))
     ]
 
@@ -58,4 +58,4 @@ returns c =
     let h = holds_as _ _ _ c.args.self.now.whole c.as_bytes-bytes.ensures.exact in
     counts (log c.args.self.now) (all_proper _ h.fit) c.args.sender c.args.receiver (is_pair c.args.sender c.args.receiver c.in_ok-check_pair.ensures) _
     (c.loop-i.invariant.1
-    ∙ ap (λ (z : List Msg). length (of z c.args.sender c.args.receiver)) (all_read _ _ _ h c.loop-i.-i c.loop-i-test.false))
+    ∙ ap (λ (z : List Msg). length (of z c.args.sender c.args.receiver)) (all_read _ _ _ h c.loop-i._i c.loop-i-test.false))

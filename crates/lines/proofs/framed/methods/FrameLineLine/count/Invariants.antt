@@ -7,5 +7,5 @@ use Rattle.lines.proofs.framed.methods.FrameLineLine.count.Given as goal
 -- the frames so far, and those of the pair among them
 abbrev pub invariant-loop-i : goal.invariant-loop-i
 invariant-loop-i l =
-    (l.at ≡ length (framed (take l.-i (log l.self))))
-    × (l.found ≡ length (of (take l.-i (log l.self)) l.sender l.receiver)) × (l.found ≤ l.-i)
+    (l.at ≡ length (framed (take l._i (log l.self))))
+    × (l.found ≡ length (of (take l._i (log l.self)) l.sender l.receiver)) × (l.found ≤ l._i)

@@ -24,7 +24,7 @@ copy_within-requires c =
     let p = c.in_ok-slot.ensures.1 in
     let e = ends _ _ _ (holds _ _ c.args.self.now.whole) p.front _ p.back p.about _ _ p.from p.takes in
     let l = c.args.self.now.frames.ok.0 in
-    record { start-le-end = omega (arith, e, l); in_bounds = omega arith; dest-in-bounds = omega (arith, e, l); not-exhausted = tt }
+    record { start_le_end = omega (arith, e, l); in_bounds = omega arith; dest_in_bounds = omega (arith, e, l); not_exhausted = tt }
 
 pub overflow_sub-self : goal.overflow_sub-self
 overflow_sub-self c =
@@ -36,13 +36,12 @@ invariant_of-self c =
     let p = c.in_ok-slot.ensures.1 in
     let lies = ends _ _ _ (holds _ _ c.args.self.now.whole) p.front _ p.back p.about _ _ p.from p.takes in
     let h = cut _ _ _ (holds _ _ c.args.self.now.whole) p.front _ p.back p.about _ _ p.from p.takes
-    c.args.self.now.frames.len _ _ _ c.args.self.now.frames.ok.0 (omega (arith, c.len.ensures, c.args.self.now.frames.ok.0, lies)) c.copy_within.ensures.items c.truncate.ensures.items in (
-      omega (arith, c.args.self.now.few),
-      (
-        omega (arith, c.args.self.now.reserved, c.copy_within.ensures.capacity, c.truncate.ensures.capacity),
-        (whole_of _ _ _ h, tt),
-      ),
-    )
+    c.args.self.now.frames.len _ _ _ c.args.self.now.frames.ok.0 (omega (arith, c.len.ensures, c.args.self.now.frames.ok.0, lies)) c.copy_within.ensures.items c.truncate.ensures.items in
+    record {
+      few = omega (arith, c.args.self.now.few);
+      reserved = omega (arith, c.args.self.now.reserved, c.copy_within.ensures.capacity, c.truncate.ensures.capacity);
+      whole = whole_of _ _ _ h;
+    }
 
 pub returns : goal.returns
 returns c =

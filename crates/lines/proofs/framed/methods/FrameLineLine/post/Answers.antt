@@ -24,8 +24,8 @@ pub unwrap-requires : goal.unwrap-requires
 unwrap-requires c =
     let h = holds _ _ c.args.self.now.whole in
     let m = msg_of c.args.message in
-    let n : length (take (c.unwrap_size.result - 0) c.write.new.out) ≡ size m =
-    ap length (front m (replicate 84 0) c.write.new.out c.write.result c.unwrap_size.result c.write.ensures.exact c.unwrap_size.ensures) ∙ omega arith in
+    let n : length (take (c.unwrap-size.result - 0) c.write.new.out) ≡ size m =
+    ap length (front m (replicate 84 0) c.write.new.out c.write.result c.unwrap-size.result c.write.ensures.exact c.unwrap-size.ensures) ∙ omega arith in
     c.extend_from_slice.ensures.succeeds
     (omega (arith, n, no_longer m (sound c.args.message), Framing.short _ _ _ h, c.args.self.now.frames.ok.0, c.args.self.now.reserved, leb-false 256 _ (sym c.if-is_full.ensures)))
 
@@ -33,16 +33,12 @@ pub invariant_of-self : goal.invariant_of-self
 invariant_of-self c =
     let h = holds _ _ c.args.self.now.whole in
     let m = msg_of c.args.message in
-    let items = c.extend_from_slice.ensures.items ∙ cond-true (is_ok c.extend_from_slice.result) _ _ (ap is_ok c.unwrap.ensures) in (
-      omega (arith, leb-false 256 _ (sym c.if-is_full.ensures)),
-      (
-        omega (arith, c.extend_from_slice.ensures.capacity, c.args.self.now.reserved),
-        (
-          whole_of _ _ _ (holds_push _ _ _ m _ _ h (sound c.args.message) (front m (replicate 84 0) c.write.new.out c.write.result c.unwrap_size.result c.write.ensures.exact c.unwrap_size.ensures) items),
-          tt,
-        ),
-      ),
-    )
+    let items = c.extend_from_slice.ensures.items ∙ cond-true (is_ok c.extend_from_slice.result) _ _ (ap is_ok c.unwrap.ensures) in
+    record {
+      few = omega (arith, leb-false 256 _ (sym c.if-is_full.ensures));
+      reserved = omega (arith, c.extend_from_slice.ensures.capacity, c.args.self.now.reserved);
+      whole = whole_of _ _ _ (holds_push _ _ _ m _ _ h (sound c.args.message) (front m (replicate 84 0) c.write.new.out c.write.result c.unwrap-size.result c.write.ensures.exact c.unwrap-size.ensures) items);
+    }
 
 pub returns : goal.returns
 returns c =
@@ -51,4 +47,4 @@ returns c =
     let items = c.extend_from_slice.ensures.items ∙ cond-true (is_ok c.extend_from_slice.result) _ _ (ap is_ok c.unwrap.ensures) in
     posts (log c.args.self.now) (all_proper _ h.fit) 256 m _ (fits_proper m (sound c.args.message))
     (omega (arith, h.many, leb-false 256 _ (sym c.if-is_full.ensures)))
-    (log_of _ _ _ (holds_push _ _ _ m _ _ h (sound c.args.message) (front m (replicate 84 0) c.write.new.out c.write.result c.unwrap_size.result c.write.ensures.exact c.unwrap_size.ensures) items))
+    (log_of _ _ _ (holds_push _ _ _ m _ _ h (sound c.args.message) (front m (replicate 84 0) c.write.new.out c.write.result c.unwrap-size.result c.write.ensures.exact c.unwrap-size.ensures) items))

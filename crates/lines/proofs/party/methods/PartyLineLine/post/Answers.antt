@@ -24,4 +24,4 @@ returns c =
     let many = leb-false 576 _ (sym c.if-is_full.ensures) in
     posts (map msg_of ms) (all_proper ms) 576 (msg_of c.args.message) _ (proper c.args.message)
     (omega (arith, length-map ms msg_of, c.args.self.now.messages.ok.0, many))
-    (ap (map msg_of) c.push-reserved.ensures.items ∙ map_push msg_of ms c.args.message)
+    (ap (map msg_of) c.push_reserved.ensures.items ∙ map_push msg_of ms c.args.message)
