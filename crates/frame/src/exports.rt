@@ -1,4 +1,4 @@
-// Both operations for firmware written in C, on numbers and byte slices.
+// Both operations for firmware written in C, on numbers and byte slices: the crate `frame_c` exports them.
 ghost use Rattle.std.specs.Prelude.{◌≡◌};
 ghost use Rattle.std.specs.Result.{result_map_both};
 ghost use Rattle.line.specs.View.{msg_of};
@@ -73,8 +73,7 @@ fn write_parts(
 }
 
 /// Reads the frame at the start of `bytes`.
-#[unsafe(no_mangle)]
-pub extern "C" fn folgainu_frame_read(bytes: &[u8]) -> FrameRead
+pub fn folgainu_frame_read(bytes: &[u8]) -> FrameRead
     ensures { result ≡ read_as (decoded bytes.now) }
 {
     match read(bytes) {
@@ -106,8 +105,7 @@ pub extern "C" fn folgainu_frame_read(bytes: &[u8]) -> FrameRead
 }
 
 /// Writes a frame at the start of `out`: NO MESSAGE for numbers that make none, then BUFFER.
-#[unsafe(no_mangle)]
-pub extern "C" fn folgainu_frame_write(
+pub fn folgainu_frame_write(
     receiver: u32,
     kind: u32,
     page: u32,
