@@ -1,6 +1,6 @@
 -- What a delivery answers and does at its receiver: its tests in order, each with its refusal, and then its step.
 use Rattle.std.specs.Prelude.{ℕ, List, [], ◌∷◌}
-use Rattle.line.specs.declared.refusal.Place.TheVariants.{Pair}
+use Rattle.station.specs.declared.refusal.Place.TheVariants.{Pair}
 use Rattle.line.specs.Messages.{Msg}
 use Rattle.line.specs.Lists.{Lists}
 use Rattle.notes.specs.Notes.{Notes}

@@ -13,9 +13,9 @@ ghost use Rattle.delivery.specs.Deliveries.{opened, called};
 ghost use Rattle.delivery.specs.Taking.{taking};
 ghost use Rattle.steps.specs.Soundness.{Sound};
 
-use line::{Kind, Line, Message, Place};
+use line::{Kind, Line, Message};
 use notes::{Access, CopyKind, Row, Standing};
-use station::{StationFault, check_room};
+use station::{Place, StationFault, check_room};
 use steps::{Site, enqueue, give_back, take_back};
 
 /// A copy to read, or to write, is there and open.

@@ -5,7 +5,7 @@ use Rattle.line.specs.Messages.{Msg}
 use Rattle.line.specs.Lists.{Lists, taken, sent}
 use Rattle.notes.specs.Notes.{Notes, notes}
 use Rattle.steps.specs.Steps.{Step}
-use Rattle.line.specs.declared.refusal.Place.TheVariants.{Pair}
+use Rattle.station.specs.declared.refusal.Place.TheVariants.{Pair}
 use Rattle.station.specs.Refusals.{refused}
 use Rattle.steps.specs.Serving.{serve}
 use Rattle.delivery.specs.Deliveries.{from_home, received, expected}

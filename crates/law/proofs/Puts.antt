@@ -1,7 +1,7 @@
 -- Putting bytes into a page, accepted or refused, keeps the invariant of a house, with the book after it.
 use Rattle.std.proofs.Common.{◌≡◌, ℕ, ◌+◌, ◌<◌, ◌≤◌, Bool, true, false, cond, ◌&&◌, eqb, ltb, leb, List, [], length, Result, sym, refl, ap, ◌∙◌, subst, arith, length-append, length-drop, length-take}
 use Rattle.std.proofs.lemmas.Bool.{ltb-true, leb-true, eqb-true, and_parts}
-use Rattle.line.specs.declared.refusal.Refusal.{Refusal}
+use Rattle.station.specs.declared.refusal.Refusal.{Refusal}
 use Rattle.notes.specs.Notes.{Notes, notes, is_writing}
 use Rattle.steps.specs.Steps.{laid}
 use Rattle.steps.specs.Steps.{step, put_away}

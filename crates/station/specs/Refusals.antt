@@ -1,15 +1,14 @@
 -- What the faults of a station's step tell: each with its layer, its number, its name and its place.
 use Rattle.std.specs.Prelude.{ℕ, List, codes}
-use Rattle.line.specs.declared.refusal.Layer.TheVariants.{House}
-use Rattle.line.specs.declared.refusal.Place.{Place}
-use Rattle.line.specs.declared.refusal.Place.TheVariants.{Row, Pair}
-use Rattle.line.specs.declared.refusal.Refusal.{Refusal}
+use Rattle.station.specs.declared.refusal.Place.{Place}
+use Rattle.station.specs.declared.refusal.Place.TheVariants.{Row, Pair}
+use Rattle.station.specs.declared.refusal.Refusal.{Refusal}
 use Rattle.station.specs.declared.fault.StationFault.{StationFault}
 use Rattle.station.specs.declared.fault.StationFault.TheVariants.{Standing, Range, NoCopy, Strange, Full}
 
 -- refusal n in the layer of the house
 abbrev pub refused : ℕ → Place → Refusal
-refused n p = record { layer = House; number = n; place = p }
+refused n p = record { number = n; place = p }
 
 abbrev pub told : StationFault → Refusal
 told (Standing s g) = refused 9 (Row s g)

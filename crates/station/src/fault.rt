@@ -2,7 +2,7 @@
 ghost use Rattle.std.specs.Prelude.{◌≡◌};
 ghost use Rattle.station.specs.Refusals.{told, title};
 
-use line::{Layer, Place, Refusal};
+use crate::refusal::{Place, Refusal};
 
 /// Why a call at a station, or a delivery to it, is refused: with the station and the page, or the sender and the
 /// receiver.
@@ -32,11 +32,7 @@ impl StationFault {
             StationFault::Strange(sender, receiver) => (12, Place::Pair(sender, receiver)),
             StationFault::Full(place) => (13, place),
         };
-        Refusal {
-            layer: Layer::House,
-            number,
-            place,
-        }
+        Refusal { number, place }
     }
 
     /// The refusal's name.

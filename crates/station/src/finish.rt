@@ -9,8 +9,9 @@ ghost use Rattle.steps.specs.Steps.{Counted};
 ghost use Rattle.steps.specs.Soundness.{Sound};
 
 use crate::fault::StationFault;
+use crate::refusal::Place;
 use crate::room::check_room;
-use line::{Kind, Line, Place};
+use line::{Kind, Line};
 use notes::{CopyKind, Row, Standing};
 use steps::{Site, end_away, give_back, serve_queue};
 

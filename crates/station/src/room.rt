@@ -6,7 +6,8 @@ ghost use Rattle.station.specs.Refusals.{told, refused};
 ghost use Rattle.station.specs.Calls.{has_room};
 
 use crate::fault::StationFault;
-use line::{Line, Place, capacity};
+use crate::refusal::Place;
+use line::{Line, capacity};
 
 /// How many places are free before a step: no step posts more messages.
 pub const ROOM: usize = 16;

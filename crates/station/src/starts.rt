@@ -10,8 +10,9 @@ ghost use Rattle.steps.specs.Steps.{Counted};
 ghost use Rattle.steps.specs.Soundness.{Sound};
 
 use crate::fault::StationFault;
+use crate::refusal::Place;
 use crate::room::check_room;
-use line::{Line, Place};
+use line::Line;
 use notes::{Access, Row, Standing};
 use steps::{Site, enqueue, start_away};
 
