@@ -1,5 +1,5 @@
 -- What `compose` rests on.
-use Rattle.std.proofs.Common.{◌≡◌, ℕ, List, length, Ok, Result, sym, refl, ap, ◌∙◌}
+use Rattle.std.proofs.Common.{◌≡◌, ℕ, List, length, Ok, Result, refl, ap, ◌∙◌}
 use Rattle.line.specs.declared.kind.Kind.{Kind}
 use Rattle.line.specs.declared.message.Message.{Message}
 use Rattle.line.specs.declared.fault.Misfit.{Misfit}

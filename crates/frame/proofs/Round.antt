@@ -1,13 +1,12 @@
 -- Reading what was written, and writing what was read.
-use Rattle.std.proofs.Common.{◌≡◌, ℕ, ◌+◌, ◌-◌, ◌<◌, ◌≤◌, Bool, true, false, cond, ltb, leb, List, [], ◌∷◌, ◌++◌, length, get_or, take, drop, is_ok, Ok, Err, Result, sym, refl, ap, ◌∙◌, subst, ⊎_elim, arith}
+use Rattle.std.proofs.Common.{◌≡◌, ℕ, ◌+◌, ◌-◌, ◌≤◌, true, false, cond, ltb, List, ◌++◌, length, take, drop, is_ok, Ok, Err, Result, sym, refl, ap, ◌∙◌, subst, ⊎_elim, arith}
 use Rattle.std.proofs.lemmas.List.{length-append, length-drop, length-take-le, take_at, drop_at, take-append-drop, drop-drop}
 use Rattle.std.proofs.lemmas.Bool.{cond-true, cond-false, cases_Bool, le-ltb, ltb-false}
 use Rattle.std.specs.Result.{result_unwrap_or}
 use Rattle.line.specs.declared.kind.Kind.{Kind}
-use Rattle.line.specs.declared.message.Message.{Message}
 use Rattle.line.specs.declared.fault.Misfit.{Misfit}
 use Rattle.line.specs.declared.refusal.Refusal.{Refusal}
-use Rattle.line.specs.Kinds.{number, kind_of}
+use Rattle.line.specs.Kinds.{number}
 use Rattle.line.specs.Messages.{Msg, msg, misfit, Fits}
 use Rattle.line.specs.View.{msg_of}
 use Rattle.line.proofs.Making.{sound}

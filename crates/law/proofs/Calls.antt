@@ -11,7 +11,7 @@ use Rattle.steps.specs.Serving.{serve, enqueued}
 use Rattle.station.specs.Calls.{After, making, number, has_room, began}
 use Rattle.law.specs.State.{State, state, start, end, flush, at, Outcome, left, called, does}
 use Rattle.law.specs.Law.{Fit}
-use Rattle.law.proofs.Model.{Text, copy, Place, mine, theirs, World, world, remote, started_link, ended_link, flushed_link, serve_world}
+use Rattle.law.proofs.Model.{Text, Place, mine, theirs, World, world, remote, started_link, ended_link, flushed_link, serve_world}
 use Rattle.law.proofs.Phases.{tame_ended, tame_started, tame_flushed}
 use Rattle.law.proofs.Desks.{eqb_same, Inv}
 use Rattle.law.proofs.Moves.{home_starts, home_ends}

@@ -3,7 +3,7 @@ use Rattle.std.proofs.Common.{◌≡◌, ℕ, ◌<◌, ◌≤◌, Bool, true, fa
 use Rattle.std.proofs.lemmas.Bool.{eqb-true, lt-ltb, and_parts, and_right}
 use Rattle.line.specs.Messages.{Msg}
 use Rattle.line.specs.Lists.{Lists, taken, sent}
-use Rattle.notes.specs.Notes.{Notes, notes}
+use Rattle.notes.specs.Notes.{Notes}
 use Rattle.steps.specs.Steps.{Step}
 use Rattle.station.specs.declared.refusal.Place.TheVariants.{Pair}
 use Rattle.station.specs.Refusals.{refused}
@@ -24,7 +24,7 @@ use Rattle.law.proofs.Views.{as_down, as_up, downs, ups, linked, links, view, pa
 use Rattle.law.proofs.Lines.{turned, taken_same, taken_here, taken_other, sent_taken, Proper, clean_taken, Inward}
 use Rattle.law.proofs.Homes.{remote_not}
 use Rattle.law.proofs.Links.{link_after, received_is, received_in, received_text, expected_down}
-use Rattle.law.proofs.Pages.{Sane, Moved, moved}
+use Rattle.law.proofs.Pages.{Sane, Moved}
 use Rattle.law.proofs.Steps.{at_link, serve_page, step_page, serve_moved, step_moved}
 use Rattle.law.proofs.Calls.{sound_here}
 use Rattle.law.proofs.Arrivals.{hear_row, hear_text, received_up, heard_length, some_up, some_down, expected_up, arrived_is, heard_sound}

@@ -6,13 +6,13 @@ use Rattle.line.specs.declared.kind.Kind.TheVariants.{SharedCopy, ExclusiveCopy,
 use Rattle.line.specs.Messages.{msg}
 use Rattle.notes.specs.declared.row.Access.{Access}
 use Rattle.notes.specs.declared.row.Access.TheVariants.{Read, Write}
-use Rattle.notes.specs.declared.row.CopyKind.TheVariants.{None as NoCopy, Shared, Exclusive}
+use Rattle.notes.specs.declared.row.CopyKind.TheVariants.{None as NoCopy}
 use Rattle.notes.specs.declared.row.Standing.TheVariants.{Idle, Waiting, Open}
 use Rattle.notes.specs.Notes.{Notes, notes, is_idle, is_open, is_none, is_exclusive}
 use Rattle.steps.specs.Steps.{Step, suffices}
 use Rattle.steps.specs.Steps.{step, stand, request, given_back, started_away, ended_away, flushed}
 use Rattle.delivery.specs.Deliveries.{from_home, opened, received, expected}
-use Rattle.law.proofs.Model.{Text, Down, copy, Up, thin, full, Link, link, give_link, stand_link, ask_link, started_link, ended_link, flushed_link, fits_down, received_link}
+use Rattle.law.proofs.Model.{Text, Down, Up, thin, full, Link, link, give_link, stand_link, ask_link, started_link, ended_link, flushed_link, fits_down, received_link}
 use Rattle.law.proofs.Phases.{never}
 use Rattle.law.proofs.Facts.{DownText}
 use Rattle.law.proofs.Desks.{eqb_same}

@@ -7,7 +7,7 @@ use Rattle.steps.specs.Steps.{laid}
 use Rattle.steps.specs.Steps.{step, put_away}
 use Rattle.station.specs.Calls.{putting}
 use Rattle.law.specs.State.{State, state, put, at, Outcome, left, written, does, noted}
-use Rattle.law.proofs.Model.{Text, copy, Link, World, world, remote, placed, written_link}
+use Rattle.law.proofs.Model.{Text, Link, World, world, remote, placed, written_link}
 use Rattle.law.proofs.Facts.{clean, open_holds}
 use Rattle.law.proofs.Desks.{eqb_same, Inv}
 use Rattle.law.proofs.Serves.{writes_open}

@@ -2,7 +2,7 @@
 use Rattle.std.proofs.Common.{◌≡◌, ℕ, ◌<◌, true, false, cond, ◌&&◌, eqb, ◌++◌, length, sym, refl, ap, ◌∙◌, subst}
 use Rattle.line.specs.Lists.{Lists, sent}
 use Rattle.notes.specs.declared.row.Mode.{Mode}
-use Rattle.notes.specs.Notes.{Notes, notes}
+use Rattle.notes.specs.Notes.{Notes}
 use Rattle.steps.specs.Steps.{Step}
 use Rattle.steps.specs.Serving.{serve, served_by}
 use Rattle.law.specs.State.{State, state, at}

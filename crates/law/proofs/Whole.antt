@@ -7,7 +7,6 @@ use Rattle.notes.specs.declared.row.CopyKind.TheVariants.{None as NoCopy}
 use Rattle.notes.specs.declared.row.Standing.TheVariants.{Idle}
 use Rattle.notes.specs.declared.row.Mode.TheVariants.{Own}
 use Rattle.notes.specs.Notes.{Notes, blank, is_open, is_writing, is_waiting}
-use Rattle.notes.proofs.Bits.{alone}
 use Rattle.line.specs.Lists.{total}
 use Rattle.station.specs.Calls.{has_room}
 use Rattle.law.specs.State.{State, start, end, flush, put, deliver, Outcome, delivered, does}
@@ -17,9 +16,9 @@ use Rattle.law.proofs.Phases.{Phase, quiet, never, never'}
 use Rattle.law.proofs.Desks.{Inv}
 use Rattle.law.proofs.Page.{stands_at, text_at, alone_all, fresh_all, waits_all, bounded, enough}
 use Rattle.law.proofs.Flags.{flag, flag_zero}
-use Rattle.law.proofs.Views.{downs, ups, places, linked, links, view, page_of}
-use Rattle.law.proofs.Lines.{goes, Proper}
-use Rattle.law.proofs.Pages.{Sane, moved}
+use Rattle.law.proofs.Views.{downs, ups, linked, view, page_of}
+use Rattle.law.proofs.Lines.{Proper}
+use Rattle.law.proofs.Pages.{Sane}
 use Rattle.law.proofs.Steps.{at_link}
 use Rattle.law.proofs.Calls.{remote_from, start_keeps, end_keeps, flush_keeps}
 use Rattle.law.proofs.Puts.{put_keeps}

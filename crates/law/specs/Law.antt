@@ -1,9 +1,9 @@
 -- What is true of every house that its set-up and any acts, accepted or refused, have led to.
-use Rattle.std.specs.Prelude.{◌≡◌, ℕ, ◌+◌, ◌-◌, ◌*◌, ◌<◌, ◌≤◌, Bool, true, false, List, [], ◌∷◌, length, ◌≢◌}
+use Rattle.std.specs.Prelude.{◌≡◌, ℕ, ◌+◌, ◌-◌, ◌*◌, ◌<◌, ◌≤◌, true, List, [], ◌∷◌, length, ◌≢◌}
 use Rattle.line.specs.Messages.{Msg}
-use Rattle.line.specs.Lists.{Lists, total}
+use Rattle.line.specs.Lists.{total}
 use Rattle.notes.specs.Notes.{blank, is_open, is_waiting, is_writing}
-use Rattle.law.specs.State.{State, Act, put, deliver, Outcome, does, noted}
+use Rattle.law.specs.State.{State, Act, deliver, does, noted}
 
 -- at most so many deliveries in a row
 abbrev pub bound : (pages stations : ℕ) → ℕ

@@ -1,5 +1,5 @@
 -- A house as the law over runs sees it: every station's rows and texts, page by page, and the lists of the line.
-use Rattle.std.specs.Prelude.{ℕ, Bool, true, false, cond, not, ◌&&◌, List, [], ◌∷◌, is_ok, Result, ◌==◌, nat_lt}
+use Rattle.std.specs.Prelude.{ℕ, Bool, false, cond, not, ◌&&◌, List, [], ◌∷◌, is_ok, Result, ◌==◌, nat_lt}
 use Rattle.station.specs.declared.refusal.Refusal.{Refusal}
 use Rattle.line.specs.Messages.{Msg}
 use Rattle.line.specs.Lists.{Lists, taken}

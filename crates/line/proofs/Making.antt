@@ -1,5 +1,5 @@
 -- What making a message rests on.
-use Rattle.std.proofs.Common.{◌≡◌, ℕ, ◌≤◌, true, false, not, ◌&&◌, ◌||◌, eqb, ltb, leb, List, ◌++◌, length, take, None, Ok, Option, Result, sym, refl, ap, ◌∙◌, ⊎_elim, arith}
+use Rattle.std.proofs.Common.{◌≡◌, ℕ, ◌≤◌, true, false, not, ◌&&◌, ◌||◌, eqb, ltb, leb, List, ◌++◌, length, take, None, Ok, Option, Result, refl, ap, ◌∙◌, ⊎_elim, arith}
 use Rattle.std.proofs.lemmas.List.{take_at, length-take}
 use Rattle.std.proofs.lemmas.Bool.{cond-false, lt-leb, le-ltb, ne_eqb, or_from, and_left, and_right, not_from_true, cases_Bool}
 use Rattle.line.specs.declared.kind.Kind.{Kind}

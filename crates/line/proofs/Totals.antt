@@ -1,8 +1,7 @@
 -- How many messages wait after a post, and after many.
-use Rattle.std.proofs.Common.{◌≡◌, ℕ, zero, suc, ◌+◌, ◌<◌, ◌≤◌, Bool, true, false, cond, ◌&&◌, eqb, ltb, ◌⊎◌, List, [], ◌∷◌, ◌++◌, map, length, Ok, Err, Result, sym, refl, ap, ◌∙◌, inl, inr, ⊎_elim, arith, length-append}
-use Rattle.std.proofs.lemmas.Bool.{cases_eq, cases_Bool, eq-eqb, ne_eqb, eqb-true, and_parts, lt-ltb, cond-true}
+use Rattle.std.proofs.Common.{◌≡◌, ℕ, zero, suc, ◌+◌, ◌<◌, ◌≤◌, true, false, ◌&&◌, eqb, ltb, List, [], ◌∷◌, map, length, Ok, sym, refl, ap, ◌∙◌, ⊎_elim, arith, length-append}
+use Rattle.std.proofs.lemmas.Bool.{cases_eq, cases_Bool, eq-eqb, eqb-true, and_parts, lt-ltb, cond-true}
 use Rattle.line.specs.declared.message.Message.{Message}
-use Rattle.line.specs.declared.refusal.Refusal.{Refusal}
 use Rattle.line.specs.Messages.{Msg}
 use Rattle.line.specs.View.{msg_of}
 use Rattle.line.specs.Lists.{Lists, sum_to, total, posted, Change, posting, postings}

@@ -1,8 +1,7 @@
 -- A frame on its way onto a frame line.
-use Rattle.std.proofs.Common.{◌≡◌, ℕ, ◌+◌, ◌-◌, ◌≤◌, Bool, true, false, cond, leb, List, [], ◌∷◌, ◌++◌, length, take, drop, is_ok, Ok, Err, Result, sym, refl, ap, ◌∙◌, ⊎_elim, append-nil, arith}
-use Rattle.std.specs.List.{AllByRecursion as All}
+use Rattle.std.proofs.Common.{◌≡◌, ℕ, ◌+◌, ◌-◌, ◌≤◌, true, false, cond, leb, List, [], ◌∷◌, ◌++◌, length, take, drop, is_ok, Ok, Result, sym, ap, ◌∙◌, ⊎_elim, append-nil, arith}
 use Rattle.std.proofs.ByRecursion.{All-push}
-use Rattle.std.proofs.lemmas.List.{take_at, length_push, length-append}
+use Rattle.std.proofs.lemmas.List.{take_at, length_push}
 use Rattle.std.proofs.lemmas.Bool.{cond-true, cond-false, cases_Bool}
 use Rattle.std.specs.Result.{result_map_both, result_unwrap_or}
 use Rattle.line.specs.declared.refusal.Refusal.{Refusal}
@@ -12,7 +11,7 @@ use Rattle.frame.specs.Refusals.{told}
 use Rattle.frame.specs.Frames.{encoded, size, written}
 use Rattle.frame.proofs.Heads.{bounds}
 use Rattle.lines.specs.Framed.{framed}
-use Rattle.lines.proofs.Framing.{Holds, framed_append, framed_cons, short}
+use Rattle.lines.proofs.Framing.{Holds, framed_append, framed_cons}
 
 abbrev Wrote : Type 0
 Wrote = Result ℕ Refusal × List ℕ

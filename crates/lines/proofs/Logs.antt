@@ -1,15 +1,12 @@
 -- What posting, counting and taking off do to the lists of a log.
-use Rattle.std.proofs.Common.{◌≡◌, ℕ, ◌+◌, ◌<◌, ◌≤◌, Bool, true, false, cond, ◌&&◌, eqb, ltb, ◌⊎◌, List, [], ◌∷◌, ◌++◌, length, Ok, Err, filter, Result, sym, refl, ap, ◌∙◌, ⊎_elim, append-nil, arith}
+use Rattle.std.proofs.Common.{◌≡◌, ℕ, ◌+◌, true, false, cond, ◌&&◌, eqb, ltb, List, [], ◌∷◌, ◌++◌, length, sym, refl, ap, ◌∙◌, ⊎_elim, append-nil, arith}
 use mathlib.Core.Path.{fun_ext}
 use Rattle.std.specs.List.{AllByRecursion as All}
 use Rattle.std.proofs.lemmas.List.Elements.{filter-append}
-use Rattle.std.proofs.lemmas.Bool.{cases_Bool, cases_eq, eq-eqb, ne_eqb, eqb-true, and_parts, and_from, and_left, and_right, cond-true, cond-false, lt-ltb, le-ltb, both_ways, ltb-true}
-use Rattle.line.specs.declared.refusal.Place.TheVariants.{Pair}
-use Rattle.line.specs.declared.refusal.Refusal.{Refusal}
-use Rattle.line.specs.Refusals.{refused}
+use Rattle.std.proofs.lemmas.Bool.{cases_Bool, eq-eqb, eqb-true, and_parts, and_from, both_ways, ltb-true}
 use Rattle.line.specs.Messages.{Msg}
-use Rattle.line.specs.Lists.{Lists, pair, paired, empty, total, posted, behind, taken, Change, posting, counting, oldest, peeking, taking, dropping, sum_to}
-use Rattle.line.proofs.Totals.{total_posted, total_more}
+use Rattle.line.specs.Lists.{Lists, pair, paired, empty, total, posted, behind, taken, sum_to}
+use Rattle.line.proofs.Totals.{total_more}
 use Rattle.lines.specs.Logs.{goes, of}
 
 -- m is between two different stations

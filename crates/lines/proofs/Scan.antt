@@ -1,6 +1,5 @@
 -- Going through the frames of a frame line, one by one.
-use Rattle.std.proofs.Common.{◌≡◌, ℕ, suc, ◌+◌, ◌-◌, ◌<◌, ◌≤◌, true, List, [], ◌∷◌, ◌++◌, length, get_or, take, drop, is_ok, Ok, Err, Result, sym, refl, ap, ◌∙◌, subst, arith, drop-cons}
-use Rattle.std.specs.List.{AllByRecursion as All}
+use Rattle.std.proofs.Common.{◌≡◌, ℕ, ◌+◌, ◌-◌, ◌<◌, ◌≤◌, true, List, [], ◌∷◌, ◌++◌, length, get_or, take, drop, is_ok, Ok, Err, Result, sym, refl, ap, ◌∙◌, arith, drop-cons}
 use Rattle.std.proofs.ByRecursion.{All-get_or}
 use Rattle.std.proofs.lemmas.List.{take-append-drop, drop_at, take_rest, take_all, length-append, get_or_default}
 use Rattle.std.specs.Result.{result_map_both, result_unwrap_or}
@@ -11,7 +10,7 @@ use Rattle.line.specs.Messages.{Msg, Fits, msg}
 use Rattle.line.specs.View.{msg_of}
 use Rattle.frame.specs.declared.fault.FrameFault.{FrameFault}
 use Rattle.frame.specs.Refusals.{told}
-use Rattle.frame.specs.Frames.{encoded, size, decoded, seen}
+use Rattle.frame.specs.Frames.{size, decoded, seen}
 use Rattle.frame.proofs.Round.{again}
 use Rattle.lines.specs.Framed.{framed}
 use Rattle.lines.proofs.Framing.{Holds, framed_append, framed_cons}

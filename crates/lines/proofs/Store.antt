@@ -1,10 +1,9 @@
 -- The list of a party line as a log.
-use Rattle.std.proofs.Common.{◌≡◌, ℕ, suc, ◌+◌, ◌<◌, ◌≤◌, true, ltb, List, [], ◌∷◌, ◌++◌, map, length, get_or, take, drop, sym, refl, ap, ◌∙◌, arith}
+use Rattle.std.proofs.Common.{◌≡◌, ℕ, suc, ◌<◌, ◌≤◌, true, List, [], ◌∷◌, ◌++◌, map, length, get_or, take, drop, sym, ap, ◌∙◌}
 use Rattle.std.specs.List.{AllByRecursion as All, remove}
 use Rattle.std.proofs.lemmas.List.{map-append, take-map, drop-map, get_or-map, length-map, take_all}
 use Rattle.std.proofs.lemmas.Bool.{lt-ltb, and_from, ne_eqb, not_from_false}
 use Rattle.line.specs.declared.message.Message.{Message}
-use Rattle.line.specs.Messages.{Msg}
 use Rattle.line.specs.View.{msg_of}
 use Rattle.lines.specs.Logs.{goes, of, First}
 use Rattle.lines.proofs.Logs.{Proper}

@@ -1,10 +1,10 @@
 -- The bits of a byte: what is true of each is computed over all of them.
-use Rattle.std.proofs.Common.{◌≡◌, ℕ, zero, suc, ◌-◌, ◌/◌, ◌%◌, ◌^◌, ◌<◌, ◌≤◌, Bool, true, false, cond, not, ◌&&◌, ◌||◌, eqb, length, sym, refl, ap, ◌∙◌, ⊎_elim, arith}
+use Rattle.std.proofs.Common.{◌≡◌, ℕ, zero, suc, ◌-◌, ◌/◌, ◌%◌, ◌^◌, ◌<◌, Bool, true, false, cond, not, ◌&&◌, ◌||◌, eqb, length, refl, ap, ◌∙◌, ⊎_elim, arith}
 use native.Mathlib.Nat.{zero-div}
 use lib.Bits.{bit_and, bit_or, or_shr, or_mod, and_shr, and_mod}
 use lib.Count.{ones, ones_in}
-use Rattle.std.proofs.lemmas.Bool.{cases_eq, and_parts, eqb-true, eq-eqb, ne_eqb}
-use Rattle.notes.specs.Sets.{isin, only, joined, left, members_below, members, Alone, Joins, Leaves, Empty}
+use Rattle.std.proofs.lemmas.Bool.{cases_eq, and_parts, eqb-true, eq-eqb}
+use Rattle.notes.specs.Sets.{isin, only, left, members_below, members, Alone, Joins, Leaves, Empty}
 
 -- a test of every number below n, and what it says of each
 every : ℕ → (ℕ → Bool) → Bool

@@ -1,10 +1,10 @@
 -- A plan that was read, written down again.
-use Rattle.std.proofs.Common.{◌≡◌, ℕ, zero, suc, ◌+◌, ◌-◌, ◌<◌, ◌≤◌, Bool, true, false, cond, ltb, leb, List, [], ◌∷◌, ◌++◌, length, get_or, take, drop, is_ok, Ok, Err, Result, sym, refl, ap, ◌∙◌, subst, ⊎_elim, append_assoc, append-nil, add-one, arith}
-use Rattle.std.proofs.lemmas.List.{drop_more, drop_all, drop-drop, take-append-drop, length-take-le, length-drop, length-append}
-use Rattle.std.proofs.lemmas.Bool.{cond-true, cond-false, cases_Bool, ltb-true, ltb-false, leb-true}
+use Rattle.std.proofs.Common.{◌≡◌, ℕ, zero, suc, ◌+◌, ◌<◌, ◌≤◌, Bool, true, false, cond, ltb, leb, List, [], ◌∷◌, ◌++◌, length, get_or, take, drop, is_ok, Ok, Err, Result, sym, refl, ap, ◌∙◌, subst, ⊎_elim, append_assoc, append-nil, arith}
+use Rattle.std.proofs.lemmas.List.{drop_more, drop_all, drop-drop, take-append-drop, length-take-le, length-drop}
+use Rattle.std.proofs.lemmas.Bool.{cond-true, cases_Bool, ltb-true, ltb-false, leb-true}
 use Rattle.std.specs.Result.{result_unwrap_or}
 use Rattle.line.specs.declared.refusal.Refusal.{Refusal}
-use Rattle.plan.specs.Plans.{Sheet, sheet, Layout, layout, then, byte_at, passing, between, new_letter, text_at, letters_at, sheet_at, sheets_at, end_at, ended, paged, planned, sheet_down, sheets_down, down, WritesDown}
+use Rattle.plan.specs.Plans.{Sheet, sheet, layout, then, byte_at, passing, between, new_letter, text_at, letters_at, sheet_at, sheets_at, end_at, ended, paged, planned, sheet_down, sheets_down, down, WritesDown}
 
 refuses : {A : Type 0} (e : Refusal) (y : A) → ◌≡◌ {A = Result A Refusal} (Err e) (Ok y) → ⊥
 refuses {A} e y q = let z : ◌≡◌ {A = ℕ} 0 1 = ap (λ (a : Result A Refusal). cond (is_ok a) 1 0) q in omega arith

@@ -1,8 +1,8 @@
 -- Reading a whole plan, part by part.
-use Rattle.std.proofs.Common.{◌≡◌, ℕ, ◌+◌, List, [], map, take, Ok, Err, Result, sym, refl, ap, ◌∙◌, arith}
+use Rattle.std.proofs.Common.{◌≡◌, ℕ, ◌+◌, List, [], map, Ok, Err, Result, sym, ap, ◌∙◌, arith}
 use Rattle.line.specs.declared.refusal.Refusal.{Refusal}
 use Rattle.plan.specs.declared.plan.Page.{Page}
-use Rattle.plan.specs.Plans.{Sheet, Layout, layout, then, passing, between, letters_at, sheets_at, end_at, ended, paged, planned}
+use Rattle.plan.specs.Plans.{Sheet, layout, then, passing, between, letters_at, sheets_at, end_at, ended, paged, planned}
 use Rattle.plan.specs.View.{sheet_of}
 
 abbrev Answer : Type 0 → Type 0

@@ -1,11 +1,9 @@
 -- What each call of a station answers and does: its tests in order, each with its refusal, and then its step.
 use Rattle.std.specs.Prelude.{ℕ, ◌+◌, Bool, cond, not, ◌&&◌, List, [], ◌∷◌, length, Ok, Err, Result, ◌==◌, nat_le, nat_lt}
-use Rattle.station.specs.declared.refusal.Place.{Place}
 use Rattle.station.specs.declared.refusal.Place.TheVariants.{Row}
 use Rattle.station.specs.declared.refusal.Refusal.{Refusal}
 use Rattle.line.specs.Lists.{Lists, total, sent}
 use Rattle.notes.specs.declared.row.Access.{Access}
-use Rattle.notes.specs.declared.row.Standing.{Standing}
 use Rattle.notes.specs.declared.row.Standing.TheVariants.{Idle, Waiting}
 use Rattle.notes.specs.Notes.{Notes, is_idle, is_open, is_writing, is_none}
 use Rattle.station.specs.declared.starts.Started.{Started}

@@ -1,5 +1,5 @@
 -- What every step keeps of the home's notes.
-use Rattle.std.proofs.Common.{◌≡◌, ℕ, zero, suc, ◌<◌, ◌≤◌, Bool, true, false, cond, eqb, ◌⊎◌, List, [], ◌∷◌, ◌++◌, length, drop, sym, refl, ap, ◌∙◌, subst, inl, inr, ⊎_elim, arith}
+use Rattle.std.proofs.Common.{◌≡◌, ℕ, ◌<◌, Bool, true, false, cond, eqb, ◌⊎◌, List, ◌∷◌, drop, sym, refl, ap, ◌∙◌, subst, inl, inr, ⊎_elim, arith}
 use Rattle.std.proofs.lemmas.Bool.{eq-eqb, ne_eqb, eqb-true, eqb-false, cases_Bool, or_right}
 use Rattle.notes.specs.declared.row.Access.{Access}
 use Rattle.notes.specs.declared.row.Access.TheVariants.{Read, Write}
@@ -8,14 +8,13 @@ use Rattle.notes.specs.declared.row.Mode.{Mode}
 use Rattle.notes.specs.declared.row.Mode.TheVariants.{Own, Shared, Away}
 use Rattle.notes.specs.declared.queue.Entry.{Entry}
 use Rattle.notes.specs.declared.set.StationSet.{StationSet}
-use Rattle.notes.specs.Sets.{isin, only, joined, left}
+use Rattle.notes.specs.Sets.{isin, only, left}
 use Rattle.notes.specs.Queues.{queued}
-use Rattle.notes.specs.Notes.{Notes, notes, HomeNotes, home_notes, is_waiting, is_open, is_writing}
+use Rattle.notes.specs.Notes.{Notes, is_waiting, is_open, is_writing}
 use Rattle.notes.proofs.Bits.{alone, joins, leaves, gone, nobody}
-use Rattle.steps.specs.declared.serve.Verdict.{Verdict}
 use Rattle.steps.specs.declared.serve.Verdict.TheVariants.{Grant, Recall, Wait}
-use Rattle.steps.specs.Steps.{Step, step, stand}
-use Rattle.steps.specs.Serving.{set, verdict, read_verdict, write_verdict, mode_for, holders_for, granted, enqueued, returned}
+use Rattle.steps.specs.Steps.{stand}
+use Rattle.steps.specs.Serving.{set, verdict, mode_for, holders_for, granted, enqueued, returned}
 use Rattle.steps.specs.Soundness.{Apart, Fitting, Sound}
 use Rattle.steps.proofs.Crowds.{joins_apart, last_or}
 use Rattle.steps.proofs.Servings.{turn, awaiting}

@@ -1,21 +1,21 @@
 -- Serving, one entry at a time.
-use Rattle.std.proofs.Common.{◌≡◌, ℕ, zero, suc, ◌+◌, ◌<◌, ◌≤◌, Bool, true, false, cond, eqb, List, [], ◌∷◌, ◌++◌, length, sym, refl, ap, ◌∙◌, arith, length-append}
+use Rattle.std.proofs.Common.{◌≡◌, ℕ, zero, suc, ◌+◌, ◌≤◌, Bool, true, false, cond, eqb, List, [], ◌∷◌, length, refl, arith, length-append}
 use lib.ListN.{length-map}
-use Rattle.std.proofs.lemmas.Bool.{eq-eqb, ne_eqb}
+use Rattle.std.proofs.lemmas.Bool.{ne_eqb}
 use Rattle.line.specs.Messages.{Msg}
-use Rattle.line.specs.Lists.{Lists, total, posted, sent}
+use Rattle.line.specs.Lists.{Lists, total, sent}
 use Rattle.notes.specs.declared.row.Standing.{Standing}
 use Rattle.notes.specs.declared.row.Standing.TheVariants.{Open}
 use Rattle.notes.specs.declared.row.Mode.{Mode}
 use Rattle.notes.specs.declared.queue.Entry.{Entry}
 use Rattle.notes.specs.declared.set.StationSet.{StationSet}
 use Rattle.notes.specs.Sets.{isin, members_below, members}
-use Rattle.notes.specs.Notes.{Notes, notes, HomeNotes, home_notes}
+use Rattle.notes.specs.Notes.{Notes, notes, home_notes}
 use Rattle.steps.specs.declared.serve.Verdict.{Verdict}
 use Rattle.steps.specs.declared.serve.Verdict.TheVariants.{Grant, Recall, Wait}
-use Rattle.steps.specs.Steps.{Step, step, done}
+use Rattle.steps.specs.Steps.{step, done}
 use Rattle.steps.specs.Soundness.{Sound}
-use Rattle.steps.specs.Serving.{verdict, Served, served, by, after, recalls, grant, mode_for, holders_for, serving, served_by, serve, granted}
+use Rattle.steps.specs.Serving.{verdict, Served, served, by, after, recalls, mode_for, holders_for, serving, serve, granted}
 
 -- what becomes of the entry e
 abbrev pub turn : Entry → Notes → Verdict

@@ -1,5 +1,5 @@
 -- The turns of serving: where it stands before and after each.
-use Rattle.std.proofs.Common.{◌≡◌, ℕ, ◌+◌, ◌<◌, ◌≤◌, Bool, true, false, cond, eqb, List, [], ◌∷◌, ◌++◌, length, drop, Some, None, Option, sym, refl, ap, ◌∙◌, subst, arith}
+use Rattle.std.proofs.Common.{◌≡◌, ℕ, ◌+◌, ◌<◌, ◌≤◌, Bool, true, false, eqb, List, [], ◌∷◌, length, drop, Some, None, sym, refl, ap, ◌∙◌, subst, arith}
 use lib.ListN.{length-map}
 use Rattle.line.specs.declared.kind.Kind.TheVariants.{Invalidate}
 use Rattle.line.specs.Messages.{Msg, msg}
@@ -18,7 +18,7 @@ use Rattle.steps.specs.Serving.{recalls, serve, granted, grant}
 use Rattle.steps.specs.Steps.{Counted}
 use Rattle.steps.specs.Soundness.{Sound}
 use Rattle.steps.proofs.Crowds.{at_most_eight}
-use Rattle.steps.proofs.Servings.{turn, awaiting, serve_waits, serve_none, serve_stays, serve_recalls, serve_grants, few_posts, few_recalls, Going}
+use Rattle.steps.proofs.Servings.{turn, awaiting, serve_stays, serve_recalls, serve_grants, few_posts, Going}
 use Rattle.steps.proofs.Kept.{first_in, granted_sound, awaiting_sound, recalled_away}
 
 pub head_is : (q : List Entry) (e : Entry) → Some e ≡ oldest q → q ≡ e ∷ drop 1 q

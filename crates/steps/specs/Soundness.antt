@@ -1,5 +1,5 @@
 -- What holds of a home's row by itself, whatever is delivered.
-use Rattle.std.specs.Prelude.{◌≡◌, ℕ, ◌<◌, Bool, true, false, List, [], ◌∷◌}
+use Rattle.std.specs.Prelude.{◌≡◌, ℕ, ◌<◌, true, false, List, [], ◌∷◌}
 use Rattle.notes.specs.declared.row.Mode.{Mode}
 use Rattle.notes.specs.declared.row.Mode.TheVariants.{Own, Shared, Away}
 use Rattle.notes.specs.declared.queue.Entry.{Entry}

@@ -1,4 +1,4 @@
-use Rattle.std.proofs.Common.{◌≡◌, ℕ, ◌+◌, ◌≤◌, List, length, sym, refl, ap, ◌∙◌, arith, rules}
+use Rattle.std.proofs.Common.{◌≡◌, ℕ, ◌+◌, ◌≤◌, List, length, refl, ap, ◌∙◌, arith, rules}
 use Rattle.line.specs.Kinds.{number}
 use Rattle.line.specs.View.{msg_of}
 use Rattle.line.proofs.Making.{short}

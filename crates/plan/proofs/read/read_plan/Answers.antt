@@ -1,4 +1,4 @@
-use Rattle.std.proofs.Common.{◌≡◌, sym, refl, ap, ◌∙◌}
+use Rattle.std.proofs.Common.{sym}
 use Rattle.std.proofs.lemmas.Result.{err_from_is_err_and}
 use Rattle.plan.proofs.Whole.{no_stations, no_letters, no_pages, no_sheets, not_ended, whole}
 use Rattle.plan.proofs.Down.{writes_down}

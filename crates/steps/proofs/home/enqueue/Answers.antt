@@ -1,8 +1,7 @@
-use Rattle.std.proofs.Common.{◌≡◌, List, sym, ap, subst, rules}
+use Rattle.std.proofs.Common.{List, sym, subst}
 use Rattle.notes.specs.declared.queue.Entry.{Entry}
-use Rattle.notes.specs.Notes.{Notes, notes, home_notes}
+use Rattle.notes.specs.Notes.{notes, home_notes}
 use Rattle.notes.specs.View.{notes_of}
-use Rattle.steps.specs.Serving.{enqueued}
 use Rattle.steps.specs.Soundness.{Sound}
 use Rattle.steps.proofs.Crowds.{place_left}
 use Rattle.steps.proofs.Kept.{joins_sound}

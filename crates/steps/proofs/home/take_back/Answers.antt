@@ -1,4 +1,4 @@
-use Rattle.std.proofs.Common.{◌≡◌, sym, ap, subst, rules}
+use Rattle.std.proofs.Common.{◌≡◌, subst, rules}
 use Rattle.notes.specs.Notes.{Notes}
 use Rattle.notes.specs.View.{notes_of}
 use Rattle.steps.specs.Serving.{returned}

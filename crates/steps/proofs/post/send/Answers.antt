@@ -1,4 +1,4 @@
-use Rattle.std.proofs.Common.{◌≡◌, ◌<◌, ap, ◌∙◌, rules}
+use Rattle.std.proofs.Common.{◌≡◌, ap, ◌∙◌, rules}
 use Rattle.line.specs.Messages.{msg}
 use Rattle.line.specs.Lists.{paired, total, posted}
 use Rattle.line.proofs.Totals.{total_posted}

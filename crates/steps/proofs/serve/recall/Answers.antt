@@ -1,4 +1,4 @@
-use Rattle.std.proofs.Common.{◌≡◌, ℕ, ◌+◌, ◌<◌, Bool, true, false, cond, sym, refl, ap, ◌∙◌, subst, arith, rules}
+use Rattle.std.proofs.Common.{◌≡◌, true, sym, ◌∙◌, rules}
 use Rattle.notes.specs.Sets.{isin}
 use Rattle.steps.proofs.Posting.{none_called, calls, skips, one_free, apart}
 use Rattle.steps.proofs.serve.recall.Goals as goal

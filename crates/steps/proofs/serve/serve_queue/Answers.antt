@@ -1,7 +1,5 @@
-use Rattle.std.proofs.Common.{◌≡◌, sym, refl, ap, ◌∙◌, arith, rules}
+use Rattle.std.proofs.Common.{sym, ◌∙◌, arith}
 use Rattle.std.proofs.lemmas.Bool.{eqb-true, eqb-false}
-use Rattle.line.specs.Lists.{paired}
-use Rattle.notes.specs.View.{notes_of}
 use Rattle.steps.proofs.Servings.{serve_waits, serve_none}
 use Rattle.steps.proofs.Turns.{begins, none_is, stops, in_range, some_left, waits_stops, grant_free, goes, recall_away, recall_free, recall_ends}
 use Rattle.steps.proofs.serve.serve_queue.Goals as goal

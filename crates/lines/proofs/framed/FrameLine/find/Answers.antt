@@ -1,4 +1,4 @@
-use Rattle.std.proofs.Common.{◌≡◌, ℕ, suc, ◌+◌, List, take, drop, sym, refl, ap, ◌∙◌, arith, rules}
+use Rattle.std.proofs.Common.{suc, ◌+◌, List, take, drop, sym, ap, ◌∙◌, rules}
 use Rattle.line.specs.Messages.{Msg}
 use Rattle.line.specs.Lists.{Lists}
 use Rattle.lines.specs.Kept.{log}

@@ -1,4 +1,4 @@
-use Rattle.std.proofs.Common.{List, [], ap, ◌∙◌, arith, rules}
+use Rattle.std.proofs.Common.{List, [], ap, ◌∙◌, arith}
 use Rattle.line.specs.Messages.{Msg}
 use Rattle.line.specs.Lists.{paired}
 use Rattle.lines.specs.Logs.{of}

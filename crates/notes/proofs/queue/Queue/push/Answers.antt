@@ -1,4 +1,4 @@
-use Rattle.std.proofs.Common.{◌≡◌, suc, ◌<◌, [], ◌∷◌, ◌++◌, length, sym, refl, ap, ◌∙◌, add-one, arith, rules}
+use Rattle.std.proofs.Common.{◌≡◌, suc, ◌<◌, [], ◌∷◌, ◌++◌, length, refl, ap, ◌∙◌, add-one, arith, rules}
 use Rattle.notes.specs.Queues.{entries}
 use Rattle.notes.proofs.Slots.{none_passed, passes, pushed, pushed_last, all_taken, free, taken}
 use Rattle.notes.proofs.queue.Queue.push.Goals as goal

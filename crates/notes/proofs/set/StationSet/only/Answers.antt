@@ -1,5 +1,5 @@
 use Rattle.std.proofs.Common.{◌≡◌, ◌*◌, ◌%◌, ◌^◌, ap, ◌∙◌, rules}
-use Rattle.notes.specs.Sets.{isin, only, joined, left}
+use Rattle.notes.specs.Sets.{isin, only}
 use Rattle.notes.proofs.Bits.{alone}
 use Rattle.notes.proofs.set.StationSet.only.Goals as goal
 

@@ -1,6 +1,6 @@
-use Rattle.std.proofs.Common.{◌≡◌, ◌-◌, ◌*◌, ◌%◌, ◌^◌, ap, ◌∙◌, rules}
-use lib.Bits.{bit_and, bit_or}
-use Rattle.notes.specs.Sets.{isin, only, joined, left}
+use Rattle.std.proofs.Common.{◌≡◌, ◌*◌, ◌%◌, ◌^◌, ap, ◌∙◌, rules}
+use lib.Bits.{bit_or}
+use Rattle.notes.specs.Sets.{isin, only}
 use Rattle.notes.proofs.Bits.{joins}
 use Rattle.notes.proofs.set.StationSet.with.Goals as goal
 

@@ -1,5 +1,4 @@
-use Rattle.std.proofs.Common.{◌≡◌, Result, sym, ap, ◌∙◌}
-use Rattle.std.specs.Result.{result_map_both}
+use Rattle.std.proofs.Common.{◌∙◌}
 use Rattle.std.proofs.lemmas.Result.{err_from_is_err_and}
 use Rattle.plan.proofs.Sheets.{no_home, no_length, no_text, whole}
 use Rattle.plan.proofs.reader.Reader.page.Goals as goal

@@ -1,4 +1,4 @@
-use Rattle.std.proofs.Common.{◌≡◌, ℕ, ◌+◌, List, length, sym, refl, ap, ◌∙◌, arith, rules}
+use Rattle.std.proofs.Common.{◌+◌, List, length, sym, ap, ◌∙◌, arith, rules}
 use Rattle.line.specs.Messages.{Msg}
 use Rattle.line.specs.Lists.{Lists}
 use Rattle.lines.specs.Kept.{log}

@@ -1,11 +1,10 @@
-use Rattle.std.proofs.Common.{◌≡◌, List, map, length, Err, sym, refl, ap, ◌∙◌, arith}
+use Rattle.std.proofs.Common.{map, Err, sym, ap, ◌∙◌, arith}
 use Rattle.std.proofs.lemmas.Bool.{leb-true, leb-false}
 use Rattle.std.proofs.lemmas.List.{map_push, length-map}
 use Rattle.line.specs.declared.refusal.Place.TheVariants.{Pair}
 use Rattle.line.specs.Refusals.{refused}
 use Rattle.line.specs.View.{msg_of}
 use Rattle.line.specs.Lists.{Change, paired}
-use Rattle.lines.specs.Held.{log}
 use Rattle.lines.specs.Logs.{of}
 use Rattle.lines.proofs.Calls.{posts, full}
 use Rattle.lines.proofs.Store.{proper, all_proper}
