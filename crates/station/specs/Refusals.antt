@@ -1,4 +1,4 @@
--- What the faults of a station's step tell: each with its layer, its number, its name and its place.
+-- What the faults of a station's step tell: each with its number, its name and its place. The layer is the house's.
 use Rattle.std.specs.Prelude.{ℕ, List, codes}
 use Rattle.station.specs.declared.refusal.Place.{Place}
 use Rattle.station.specs.declared.refusal.Place.TheVariants.{Row, Pair}

@@ -21,7 +21,7 @@ pub enum StationFault {
 }
 
 impl StationFault {
-    /// The layer, the number and the place of the refusal.
+    /// The number and the place of the refusal.
     pub fn refusal(self) -> Refusal
         ensures { result ≡ told self }
     {
