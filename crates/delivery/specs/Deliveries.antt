@@ -1,12 +1,12 @@
 -- What a message needs of the receiver's row, and what it does there.
-use Rattle.std.specs.Prelude.{ℕ, Bool, true, false, cond, not, ◌&&◌, ◌||◌, List, [], length, ◌==◌}
+use Rattle.std.specs.Prelude.{ℕ, Bool, true, false, cond, not, ◌&&◌, ◌||◌, List, [], length, ◌==◌, Option, Some, None}
 use Rattle.line.specs.declared.kind.Kind.{Kind}
 use Rattle.line.specs.declared.kind.Kind.TheVariants.{SharedCopy, ExclusiveCopy, ModifyGrant, Invalidate, ReadRequest, WriteRequest, Ack, AckWithText, Flush, FlushWithText}
 use Rattle.line.specs.Kinds.{bears}
 use Rattle.notes.specs.declared.row.Access.{Access}
 use Rattle.notes.specs.declared.row.Access.TheVariants.{Read, Write}
 use Rattle.notes.specs.declared.row.CopyKind.{CopyKind}
-use Rattle.notes.specs.declared.row.CopyKind.TheVariants.{None as NoCopy, Shared, Exclusive}
+use Rattle.notes.specs.declared.row.CopyKind.TheVariants.{Shared, Exclusive}
 use Rattle.notes.specs.declared.row.Standing.{Standing}
 use Rattle.notes.specs.declared.row.Standing.TheVariants.{Idle, Waiting, Open}
 use Rattle.notes.specs.declared.row.Mode.{Mode}
@@ -17,10 +17,10 @@ use Rattle.notes.specs.Notes.{Notes, notes, is_none, is_open, is_write}
 use Rattle.steps.specs.Steps.{Step, step, given_back}
 use Rattle.steps.specs.Serving.{serve, enqueued, returned}
 
-abbrev pub is_shared : CopyKind → Bool
-is_shared NoCopy = false
-is_shared Shared = true
-is_shared Exclusive = false
+abbrev pub is_shared : Option CopyKind → Bool
+is_shared None = false
+is_shared (Some Shared) = true
+is_shared (Some Exclusive) = false
 
 abbrev pub is_away : Mode → Bool
 is_away Own = false
@@ -76,8 +76,8 @@ expected a b h k xs r t = goes_right a b h k && (is_whole k xs t && meets k a r)
 
 -- a copy to read, or to write, is there and open
 abbrev pub opened : Access → Notes → Notes
-opened Read r = notes Shared r.changed r.recall (Open Read) r.home
-opened Write r = notes Exclusive false r.recall (Open Write) r.home
+opened Read r = notes (Some Shared) r.changed r.recall (Open Read) r.home
+opened Write r = notes (Some Exclusive) false r.recall (Open Write) r.home
 
 -- INVALIDATE: nothing without a copy, a mark while the page is open, else the copy goes back
 abbrev pub called : (b h g : ℕ) → Notes → List ℕ → Step

@@ -1,7 +1,6 @@
 // What is delivered to one station.
 #![tactic(auto)]
 
-mod arrival;
-mod receive;
+mod incoming;
 
-pub use arrival::deliver;
+pub use incoming::Incoming;

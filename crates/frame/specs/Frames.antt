@@ -1,14 +1,13 @@
 -- A message as bytes, and the message that bytes begin with.
-use Rattle.std.specs.Prelude.{◌≡◌, ℕ, ◌+◌, ◌*◌, ◌/◌, ◌%◌, cond, List, [], ◌∷◌, ◌++◌, length, take, drop, Some, None, Ok, Err, Option, Result, nat_le, nat_lt, slice_index}
+use Rattle.std.specs.Prelude.{◌≡◌, ℕ, ◌+◌, ◌*◌, ◌/◌, ◌%◌, cond, List, [], ◌∷◌, ◌++◌, length, take, drop, Ok, Err, Result, nat_le, nat_lt, slice_index}
 use Rattle.line.specs.declared.kind.Kind.{Kind}
 use Rattle.line.specs.declared.message.Message.{Message}
 use Rattle.line.specs.declared.fault.Misfit.{Misfit}
-use Rattle.line.specs.declared.fault.Misfit.TheVariants.{Receiver, Kind as KindPart}
 use Rattle.line.specs.declared.refusal.Place.TheVariants.{Offset}
 use Rattle.line.specs.declared.refusal.Refusal.{Refusal}
-use Rattle.line.specs.Kinds.{number, kind_of}
+use Rattle.line.specs.Kinds.{number}
 use Rattle.line.specs.Refusals.{refused, misfits}
-use Rattle.line.specs.Messages.{Msg, msg, misfit}
+use Rattle.line.specs.Messages.{Msg, msg, headed}
 use Rattle.line.specs.View.{msg_of}
 
 -- a number below 2^32 as four bytes, the highest first
@@ -33,18 +32,6 @@ written m out =
 -- the number that the four bytes from place i on write
 abbrev pub word_at : List ℕ → ℕ → ℕ
 word_at bs i = slice_index bs i * 16777216 + slice_index bs (i + 1) * 65536 + slice_index bs (i + 2) * 256 + slice_index bs (i + 3)
-
-abbrev pub unless : Kind → Option Misfit → Result Kind Misfit
-unless k None = Ok k
-unless k (Some part) = Err part
-
-abbrev pub kinded : (receiver : ℕ) → Option Kind → (page sender length : ℕ) → Result Kind Misfit
-kinded r None p s n = Err KindPart
-kinded r (Some k) p s n = unless k (misfit r k p s n)
-
--- the kind that five words name, or the first word that fits no message together with those before it
-abbrev pub headed : (receiver kind page sender length : ℕ) → Result Kind Misfit
-headed r k p s n = cond (nat_le 8 r) (Err Receiver) (kinded r (kind_of k) p s n)
 
 -- the text after the words, and how many bytes are taken; CUT SHORT at the first missing byte
 abbrev pub bodied : List ℕ → Result Kind Misfit → Result (Msg × ℕ) Refusal

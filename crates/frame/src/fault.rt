@@ -1,12 +1,14 @@
 // Why a frame is not read or not written.
-ghost use Rattle.std.specs.Prelude.{◌≡◌};
+ghost use Rattle.std.specs.Prelude.{◌≡◌, Some};
 ghost use Rattle.frame.specs.declared.fault.FrameFault.TheVariants.{Words};
 ghost use Rattle.frame.specs.Refusals.{told, title};
 
 use line::{Layer, Misfit, Place, Refusal};
+use std::error::Error;
+use std::fmt;
 
 /// Why a frame is not read or not written, with the offset of the fault.
-#[derive(Clone, Copy, Debug)]
+#[derive(Clone, Copy, Debug, PartialEq, Eq)]
 pub enum FrameFault {
     /// The bytes end here, before the frame does.
     Cut(usize),
@@ -24,14 +26,14 @@ impl From<Misfit> for FrameFault {
     }
 }
 
-impl FrameFault {
-    /// The layer, the number and the place of the refusal.
-    pub fn refusal(self) -> Refusal
-        ensures { result ≡ told self }
-    {
-        let (number, at) = match self {
+/// The layer, the number and the place of the refusal.
+impl From<FrameFault> for Refusal {
+    ghost from_gives = { λ fault refusal. refusal ≡ told fault };
+
+    fn from(fault: FrameFault) -> Refusal {
+        let (number, at) = match fault {
             FrameFault::Cut(at) => (18, at),
-            FrameFault::Words(misfit) => return misfit.refusal(),
+            FrameFault::Words(misfit) => return misfit.into(),
             FrameFault::Buffer(at) => (20, at),
         };
         Refusal {
@@ -40,7 +42,9 @@ impl FrameFault {
             place: Place::Offset(at),
         }
     }
+}
 
+impl FrameFault {
     /// The refusal's name.
     pub fn name(self) -> &'static str
         ensures { result.now ≡ title self }
@@ -52,3 +56,13 @@ impl FrameFault {
         }
     }
 }
+
+impl fmt::Display for FrameFault {
+    ghost output = { λ fault. Some (title fault) };
+
+    fn fmt<W: fmt::Write>(&self, f: &mut fmt::Formatter<W>) -> fmt::Result {
+        f.write_str(self.name())
+    }
+}
+
+impl Error for FrameFault {}

@@ -1,6 +1,6 @@
 // The two frames that docs/MESSAGES.md has in full.
 use crate::codec::{read, write};
-use line::{Kind, Message};
+use line::{Kind, Message, Pair};
 use std::test::Fail;
 
 /// Writes the message and reads it again: the bytes are these, and as many are taken.
@@ -16,8 +16,7 @@ fn check_frame(message: Message, frame: &[u8]) -> Result<(), Fail> {
     if out[23] != 0xEE {
         return Err(Fail::new("the byte after the frame"));
     }
-    let found = read(&out)?;
-    let (again, taken) = found;
+    let (again, taken) = read(&out)?;
     if taken != size {
         return Err(Fail::new("how many bytes are taken"));
     }
@@ -29,14 +28,30 @@ fn check_frame(message: Message, frame: &[u8]) -> Result<(), Fail> {
 
 #[test]
 fn invalidate() -> Result<(), Fail> {
-    let message = Message::new(0, 1, 0, Kind::Invalidate, b"")?;
+    let message = Message::new(
+        Pair {
+            sender: 0,
+            receiver: 1,
+        },
+        0,
+        Kind::Invalidate,
+        b"",
+    )?;
     let frame = [0, 0, 0, 1, 0, 0, 0, 4, 0, 0, 0, 0, 0, 0, 0, 0, 0, 0, 0, 0];
     check_frame(message, &frame)
 }
 
 #[test]
 fn ack_with_text() -> Result<(), Fail> {
-    let message = Message::new(1, 0, 0, Kind::AckWithText, b"Ah!")?;
+    let message = Message::new(
+        Pair {
+            sender: 1,
+            receiver: 0,
+        },
+        0,
+        Kind::AckWithText,
+        b"Ah!",
+    )?;
     let frame = [
         0, 0, 0, 0, 0, 0, 0, 8, 0, 0, 0, 0, 0, 0, 0, 1, 0, 0, 0, 3, 0x41, 0x68, 0x21,
     ];

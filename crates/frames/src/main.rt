@@ -2,85 +2,93 @@
 #![tactic(auto)]
 
 use frame::FrameFault;
-use line::{Line, LineFault, Message, Place, Refusal, capacity};
+use line::{Line, LineFault, Message, Pair, Place, Refusal, RowId};
 use lines::{FrameLine, PartyLine};
-use std::io;
 use std::io::Read;
+use std::{fmt, io};
 
 /// A message in words: stations, kind by name and number, page, and the text in hexadecimal.
-fn show(rt: &impl Print, message: &Message) -> io::Result<()> {
-    let kind = message.kind();
-    print!(rt; "{} to {}, ", message.sender(), message.receiver())?;
-    print!(rt;
-        "{} {}, page {}",
-        kind.name(),
-        kind.number(),
-        message.page()
-    )?;
-    if kind.bears_text() {
-        print!(rt; ", text ")?;
-        for byte in message.text() {
-            print!(rt; "{byte:02X}")?;
+#[derive(Clone, Copy)]
+struct InWords(Message);
+
+impl fmt::Display for InWords {
+    fn fmt<W: fmt::Write>(&self, f: &mut fmt::Formatter<W>) -> fmt::Result {
+        let message = self.0;
+        let Pair { sender, receiver } = message.pair();
+        let kind = message.kind();
+        let number = u8::from(kind);
+        let page = message.page();
+        write!(f, "{sender} to {receiver}, {kind} {number}, page {page}")?;
+        if kind.bears_text() {
+            write!(f, ", text ")?;
+            for byte in message.text() {
+                write!(f, "{byte:02X}")?;
+            }
+        }
+        Ok(())
+    }
+}
+
+/// A refusal of a line in words: number, name and place.
+#[derive(Clone, Copy)]
+struct Refused(LineFault);
+
+impl fmt::Display for Refused {
+    fn fmt<W: fmt::Write>(&self, f: &mut fmt::Formatter<W>) -> fmt::Result {
+        let fault = self.0;
+        let refusal = Refusal::from(fault);
+        write!(f, "refused {} {fault}", refusal.number)?;
+        match refusal.place {
+            Place::Pair(Pair { sender, receiver }) => write!(f, ", {sender} to {receiver}"),
+            Place::Offset(at) => write!(f, " at {at}"),
+            Place::Row(RowId { station, page }) => write!(f, ", station {station}, page {page}"),
         }
     }
-    println!(rt; "")
 }
 
-/// A refusal of a line: number, name and pair.
-fn show_fault(rt: &impl Print, fault: LineFault) -> io::Result<()> {
-    let refusal = fault.refusal();
-    print!(rt; "refused {} {}", refusal.number, fault.name())?;
-    match refusal.place {
-        Place::Pair(sender, receiver) => println!(rt; ", {sender} to {receiver}"),
-        Place::Offset(at) => println!(rt; " at {at}"),
+/// Why the bytes from an offset of the capture on were not read: number, name and the fault's own offset there.
+#[derive(Clone, Copy)]
+struct Left(usize, FrameFault);
+
+impl fmt::Display for Left {
+    fn fmt<W: fmt::Write>(&self, f: &mut fmt::Formatter<W>) -> fmt::Result {
+        let Left(start, fault) = *self;
+        let refusal = Refusal::from(fault);
+        let at = match refusal.place {
+            Place::Offset(at) => start.saturating_add(at),
+            _ => start,
+        };
+        write!(
+            f,
+            "left from {start}: refused {} {fault} at {at}",
+            refusal.number
+        )
     }
-}
-
-/// Why the bytes from `start` on were not read: number, name and offset in the capture.
-fn show_rest(rt: &impl Print, start: usize, fault: FrameFault) -> io::Result<()> {
-    let refusal = fault.refusal();
-    let at = match refusal.place {
-        Place::Offset(at) => start.saturating_add(at),
-        Place::Pair(_, _) => start,
-    };
-    println!(rt;
-        "left from {start}: refused {} {} at {at}",
-        refusal.number,
-        fault.name()
-    )
 }
 
 /// Takes every message off the line, pair by pair, oldest first.
 fn take_off<L: Line>(rt: &impl Print, name: &str, line: &mut L) -> io::Result<()> {
-    println!(rt;
-        "{name}: {} of {} places taken",
-        line.total(),
-        capacity::<L>()
-    )?;
+    println!(rt; "{name}: {} of {} places taken", line.total(), L::CAPACITY)?;
     for sender in 0..8 {
         for receiver in 0..8 {
-            let waiting = line.count(sender, receiver).unwrap_or(0);
-            for _ in 0..waiting {
-                match line.peek(sender, receiver) {
-                    Ok(message) => show(rt, &message)?,
-                    Err(fault) => show_fault(rt, fault)?,
+            let pair = Pair { sender, receiver };
+            for _ in 0..line.count(pair).unwrap_or(0) {
+                match line.peek(pair) {
+                    Ok(message) => println!(rt; "{}", InWords(message))?,
+                    Err(fault) => println!(rt; "{}", Refused(fault))?,
                 }
-                let _ = line.drop_oldest(sender, receiver);
+                let _ = line.drop_oldest(pair);
             }
         }
     }
-    println!(rt;
-        "{name}: {} of {} places taken",
-        line.total(),
-        capacity::<L>()
-    )
+    println!(rt; "{name}: {} of {} places taken", line.total(), L::CAPACITY)
 }
 
 /// Posts the message, and says so where the line refuses it.
 fn post<L: Line>(rt: &impl Print, line: &mut L, message: Message) -> io::Result<()> {
     match line.post(message) {
         Ok(()) => Ok(()),
-        Err(fault) => show_fault(rt, fault),
+        Err(fault) => println!(rt; "{}", Refused(fault)),
     }
 }
 
@@ -91,25 +99,28 @@ fn read_all(
     party: &mut PartyLine,
     framed: &mut FrameLine,
 ) -> io::Result<()> {
-    let mut at = 0;
+    let mut rest = bytes;
     let mut messages = 0u64;
-    while at < bytes.len() {
-        match frame::read(&bytes[at..]) {
-            Ok(found) => {
-                let (message, size) = found;
-                show(rt, &message)?;
+    while !rest.is_empty() {
+        match frame::read(rest) {
+            Ok((message, size)) => {
+                println!(rt; "{}", InWords(message))?;
                 post(rt, party, message)?;
                 post(rt, framed, message)?;
-                at += size;
+                rest = &rest[size..];
                 messages = messages.saturating_add(1);
             }
             Err(fault) => {
-                show_rest(rt, at, fault)?;
+                println!(rt; "{}", Left(bytes.len() - rest.len(), fault))?;
                 break;
             }
         }
     }
-    println!(rt; "{messages} messages, {at} of {} bytes", bytes.len())
+    println!(rt;
+        "{messages} messages, {} of {} bytes",
+        bytes.len() - rest.len(),
+        bytes.len()
+    )
 }
 
 fn run(rt: &HostRuntime) -> anyhow::Result<()> {

@@ -1,9 +1,12 @@
 -- What a message does at its page's home is what it does to the page.
-use Rattle.std.proofs.Common.{◌≡◌, ℕ, suc, ◌<◌, ◌≤◌, Bool, true, false, cond, not, ◌&&◌, ◌||◌, eqb, ltb, List, [], ◌∷◌, ◌++◌, length, sym, refl, ap, ◌∙◌, subst, arith}
+use Rattle.std.proofs.Common.{◌≡◌, ℕ, ◌<◌, ◌≤◌, Bool, true, false, cond, not, ◌&&◌, eqb, List, [], ◌∷◌, ◌++◌, length, sym, refl, ap, ◌∙◌, arith}
 use mathlib.Core.Path.{fun_ext}
-use Rattle.std.proofs.lemmas.Bool.{eqb-true, lt-ltb, eq-eqb}
+use Rattle.std.proofs.lemmas.List.{map-append}
+use Rattle.std.specs.Option.{is_some}
+use Rattle.std.proofs.lemmas.Bool.Decides.{nat_tests}
+use Rattle.std.proofs.lemmas.Bool.{eq-eqb}
 use Rattle.line.specs.declared.kind.Kind.{Kind}
-use Rattle.line.specs.declared.kind.Kind.TheVariants.{SharedCopy, ExclusiveCopy, ModifyGrant, Invalidate, ReadRequest, WriteRequest, Ack, AckWithText, Flush, FlushWithText}
+use Rattle.line.specs.declared.kind.Kind.TheVariants.{ReadRequest, WriteRequest, Ack, AckWithText, Flush, FlushWithText}
 use Rattle.line.specs.Messages.{Msg}
 use Rattle.line.specs.Lists.{taken}
 use Rattle.notes.specs.declared.row.Access.{Access}
@@ -17,111 +20,44 @@ use Rattle.delivery.specs.Deliveries.{is_away}
 use Rattle.steps.specs.Serving.{serve, enqueued, left_by, returned}
 use Rattle.delivery.specs.Deliveries.{from_home, received, expected}
 use Rattle.law.specs.State.{State, state}
-use Rattle.law.proofs.Model.{Text, Down, Up, Link, link, mine, theirs, world, some, is_asked, wish_in, remote, placed, heard_link, left_link, unheld, serve_world, fits_up, returned_world, arrived_world, nobody, size_down, size_up}
-use Rattle.law.proofs.Phases.{never, never'}
+use Rattle.law.proofs.Model.{Text, Up, Link, mine, theirs, world, wish_in, remote, placed, heard_link, left_link, unheld, serve_world, fits_up, returned_world, arrived_world, nobody}
+use Rattle.law.proofs.Phases.{never'}
 use Rattle.law.proofs.Facts.{UpText}
 use Rattle.law.proofs.Desks.{eqb_same}
 use Rattle.law.proofs.Serves.{remote_lt}
 use Rattle.law.proofs.Flags.{flag, in_range, flag_leave, scan_empty}
-use Rattle.law.proofs.Views.{as_down, as_up, downs, ups, places, linked, links, noted, view, page_of, holds, awaits, Sound}
+use Rattle.law.proofs.Views.{as_up, downs, ups, places, linked, links, noted, view, page_of, holds, awaits, Sound, place}
 use Rattle.law.proofs.Lines.{turned, taken_here, taken_other}
 use Rattle.law.proofs.Homes.{remote_not, sound_add, sound_leave}
 use Rattle.law.proofs.Steps.{at_link}
-use Rattle.law.proofs.Calls.{places_end}
 
 abbrev pub hear_row : Kind → ℕ → Notes → Notes
-hear_row SharedCopy s r = r
-hear_row ExclusiveCopy s r = r
-hear_row ModifyGrant s r = r
-hear_row Invalidate s r = r
 hear_row ReadRequest s r = enqueued s Read r
 hear_row WriteRequest s r = enqueued s Write r
 hear_row Ack s r = returned s r
 hear_row AckWithText s r = returned s r
 hear_row Flush s r = returned s r
 hear_row FlushWithText s r = returned s r
+hear_row _ s r = r
 
 abbrev pub hear_text : Kind → Text → Text → Text
-hear_text SharedCopy x t = t
-hear_text ExclusiveCopy x t = t
-hear_text ModifyGrant x t = t
-hear_text Invalidate x t = t
-hear_text ReadRequest x t = t
-hear_text WriteRequest x t = t
-hear_text Ack x t = t
 hear_text AckWithText x t = x
-hear_text Flush x t = t
 hear_text FlushWithText x t = x
+hear_text _ x t = t
 
 -- the home notes what came, and serves
 pub received_up : (a b h g : ℕ) (k : Kind) (x : Text) (r : Notes) (t : Text) → from_home k ≡ false → received a b h g k x r t ≡ serve h g (hear_text k x t) (hear_row k a r)
-received_up a b h g SharedCopy x r t f = never' f
-received_up a b h g ExclusiveCopy x r t f = never' f
-received_up a b h g ModifyGrant x r t f = never' f
-received_up a b h g Invalidate x r t f = never' f
-received_up a b h g ReadRequest x r t f = refl
-received_up a b h g WriteRequest x r t f = refl
-received_up a b h g Ack x r t f = refl
-received_up a b h g AckWithText x r t f = refl
-received_up a b h g Flush x r t f = refl
-received_up a b h g FlushWithText x r t f = refl
+received_up a b h g k x r t f = grind arith
 
 pub heard_length : (k : Kind) (x b t : Text) (u : List Up) → UpText b (as_up k x ++ u) → length t ≡ length b → length (hear_text k x t) ≡ length b
-heard_length SharedCopy x b t u e l = l
-heard_length ExclusiveCopy x b t u e l = l
-heard_length ModifyGrant x b t u e l = l
-heard_length Invalidate x b t u e l = l
-heard_length ReadRequest x b t u e l = l
-heard_length WriteRequest x b t u e l = l
-heard_length Ack x b t u e l = l
 heard_length AckWithText x b t u e l = ap length e
-heard_length Flush x b t u e l = l
 heard_length FlushWithText x b t u e l = ap length e
-
-pub some_up : (k : Kind) (x : Text) (u : List Up) → from_home k ≡ false → ltb 0 (size_up (as_up k x ++ u)) ≡ true
-some_up SharedCopy x u f = never' f
-some_up ExclusiveCopy x u f = never' f
-some_up ModifyGrant x u f = never' f
-some_up Invalidate x u f = never' f
-some_up ReadRequest x u f = lt-ltb 0 (suc (size_up u)) (omega arith)
-some_up WriteRequest x u f = lt-ltb 0 (suc (size_up u)) (omega arith)
-some_up Ack x u f = lt-ltb 0 (suc (size_up u)) (omega arith)
-some_up AckWithText x u f = lt-ltb 0 (suc (size_up u)) (omega arith)
-some_up Flush x u f = lt-ltb 0 (suc (size_up u)) (omega arith)
-some_up FlushWithText x u f = lt-ltb 0 (suc (size_up u)) (omega arith)
-
-pub some_down : (k : Kind) (x : Text) (d : List Down) → from_home k ≡ true → ltb 0 (size_down (as_down k x ++ d)) ≡ true
-some_down SharedCopy x d f = lt-ltb 0 (suc (size_down d)) (omega arith)
-some_down ExclusiveCopy x d f = lt-ltb 0 (suc (size_down d)) (omega arith)
-some_down ModifyGrant x d f = lt-ltb 0 (suc (size_down d)) (omega arith)
-some_down Invalidate x d f = lt-ltb 0 (suc (size_down d)) (omega arith)
-some_down ReadRequest x d f = never f
-some_down WriteRequest x d f = never f
-some_down Ack x d f = never f
-some_down AckWithText x d f = never f
-some_down Flush x d f = never f
-some_down FlushWithText x d f = never f
+heard_length _ x b t u e l = l
 
 -- who is queued
-eqb_turn : (a b : ℕ) → eqb a b ≡ eqb b a
-eqb_turn a b = go (eqb a b) refl
-  where
-    go : (c : Bool) → eqb a b ≡ c → c ≡ eqb b a
-    go true e = sym (eq-eqb b a (sym (eqb-true a b e)))
-    go false e = sym (turned a b e)
-
-queued_is : (h s : ℕ) (q : List Entry) → eqb s h ≡ false → is_asked (wish_in s (places h q)) ≡ queued s q
+queued_is : (h s : ℕ) (q : List Entry) → eqb s h ≡ false → is_some (wish_in s (places h q)) ≡ queued s q
 queued_is h s [] e = refl
-queued_is h s (y ∷ q) e = go (eqb y.station h) refl (queued_is h s q e)
-  where
-    first : (d : Bool) → is_asked (wish_in s (places h q)) ≡ queued s q → is_asked (cond d (some y.access) (wish_in s (places h q))) ≡ (d || queued s q)
-    first true ih = refl
-    first false ih = ih
-
-    go : (c : Bool) → eqb y.station h ≡ c → is_asked (wish_in s (places h q)) ≡ queued s q
-        → is_asked (wish_in s (cond c (mine y.access) (theirs y.station y.access) ∷ places h q)) ≡ (eqb y.station s || queued s q)
-    go true x ih = ih ∙ sym (ap (λ c. c || queued s q) (ap (λ z. eqb z s) (eqb-true y.station h x) ∙ turned s h e))
-    go false x ih = first (eqb s y.station) ih ∙ ap (λ c. c || queued s q) (eqb_turn s y.station)
+queued_is h s (y ∷ q) e = grind (arith, nat_tests, queued_is h s q e)
 
 -- a message to the home is expected
 pub expected_up : (s h : ℕ) (k : Kind) (x b : Text) (l : Link) (u : List Up) (r : Notes) (t : Text) → from_home k ≡ false → s < 8 → eqb s h ≡ false
@@ -135,20 +71,17 @@ expected_up s h k x b l u r t f s8 off is-holder is-awaited text len fit = go k 
     awaits : l.awaited ≡ isin s r.home.awaited
     awaits = is-awaited ∙ in_range s r.home.awaited s8
 
-    lined : is_asked (wish_in s (places h r.home.queue)) ≡ queued s r.home.queue
+    lined : is_some (wish_in s (places h r.home.queue)) ≡ queued s r.home.queue
     lined = queued_is h s r.home.queue off
 
     go : (k : Kind) → from_home k ≡ false → UpText b (as_up k x ++ u) → fits_up (as_up k x ++ u) r.home.mode (wish_in s (places h r.home.queue)) l ≡ true → expected s h h k x r t ≡ true
-    go SharedCopy f text fit = never' f
-    go ExclusiveCopy f text fit = never' f
-    go ModifyGrant f text fit = never' f
-    go Invalidate f text fit = never' f
     go ReadRequest f text fit = rw (eqb_same h) (sym (λ z. not (lined z) && not (holds z)) ∙ fit)
     go WriteRequest f text fit = rw (eqb_same h) (sym (λ z. not (lined z) && not (is_away r.home.mode && holds z)) ∙ fit)
     go Ack f text fit = rw (eqb_same h) (sym awaits ∙ fit)
     go AckWithText f text fit = rw (eqb_same h, eq-eqb (length x) (length t) (ap length text ∙ sym len)) (sym (λ z. awaits z && is_away r.home.mode) ∙ fit)
     go Flush f text fit = rw (eqb_same h) (sym holds ∙ fit)
     go FlushWithText f text fit = rw (eqb_same h, eq-eqb (length x) (length t) (ap length text ∙ sym len)) (sym (λ z. holds z && is_away r.home.mode) ∙ fit)
+    go _ f text fit = never' f
 
 -- The page g with its home h, after the oldest message from station s to the home was taken.
 module _ (n h g s : ℕ) (b : Text) (x : State) (m : Msg) (rest : List Msg) (few : n ≤ 8) (aw : remote n h s ≡ true) (is : x.lists s h ≡ m ∷ rest) where
@@ -164,12 +97,7 @@ module _ (n h g s : ℕ) (b : Text) (x : State) (m : Msg) (rest : List Msg) (few
 
   -- the request is taken off its list
   heard_at : (j : ℕ) → placed (page_of n h b x g).at s (heard_link (ups g rest) ((page_of n h b x g).at s)) j ≡ (page_of n h b (state x.rows x.texts (taken s h x.lists)) g).at j
-  heard_at j = go (eqb j s) refl
-    where
-      go : (c : Bool) → eqb j s ≡ c → cond c (heard_link (ups g rest) ((page_of n h b x g).at s)) ((page_of n h b x g).at j) ≡ (page_of n h b (state x.rows x.texts (taken s h x.lists)) g).at j
-      go true e = subst (λ i. heard_link (ups g rest) ((page_of n h b x g).at s) ≡ (page_of n h b (state x.rows x.texts (taken s h x.lists)) g).at i) (sym (eqb-true j s e))
-          (ap (heard_link (ups g rest)) (at_link n h s g b x aw) ∙ link_here _ _ ∙ sym (at_link n h s g b (state x.rows x.texts (taken s h x.lists)) aw))
-      go false e = ap (λ (l : Link). link (holds x h g j) (awaits x h g j) l.copied l.changed l.recall l.standing l.text l.down l.up) (link_other j e)
+  heard_at j = grind (arith, nat_tests, at_link n h s g b x aw, link_here (holds x h g s) (awaits x h g s), at_link n h s g b (state x.rows x.texts (taken s h x.lists)) aw, link_other j)
 
   s8 : s < 8
   s8 = let z = remote_lt n h s aw in omega (arith, z, few)
@@ -177,24 +105,7 @@ module _ (n h g s : ℕ) (b : Text) (x : State) (m : Msg) (rest : List Msg) (few
   -- the station has left
   left_at : (j : ℕ) → placed (page_of n h b x g).at s (left_link (ups g rest) ((page_of n h b x g).at s)) j
       ≡ noted (without (x.rows h g).home.holders s) (without (x.rows h g).home.awaited s) (links n h g x.rows x.texts (taken s h x.lists)) j
-  left_at j = go (eqb j s) refl
-    where
-      gone : (y i : ℕ) → eqb i s ≡ true → false ≡ flag i (without y s)
-      gone y i e = sym (flag_leave i s y s8 ∙ ap (λ c. cond c false (flag i y)) e)
-
-      as_was : (y : ℕ) → eqb j s ≡ false → flag j y ≡ flag j (without y s)
-      as_was y e = sym (flag_leave j s y s8 ∙ ap (λ c. cond c false (flag j y)) e)
-
-      go : (c : Bool) → eqb j s ≡ c → cond c (left_link (ups g rest) ((page_of n h b x g).at s)) ((page_of n h b x g).at j)
-          ≡ noted (without (x.rows h g).home.holders s) (without (x.rows h g).home.awaited s) (links n h g x.rows x.texts (taken s h x.lists)) j
-      go true e = subst (λ i. left_link (ups g rest) ((page_of n h b x g).at s) ≡ noted (without (x.rows h g).home.holders s) (without (x.rows h g).home.awaited s) (links n h g x.rows x.texts (taken s h x.lists)) i) (sym (eqb-true j s e))
-          (ap (left_link (ups g rest)) (at_link n h s g b x aw) ∙ link_here false false
-          ∙ (λ z. linked (gone (x.rows h g).home.holders s (eqb_same s) z) (gone (x.rows h g).home.awaited s (eqb_same s) z) (x.rows s g) (x.texts s g) (downs g (taken s h x.lists h s)) (ups g (taken s h x.lists s h)))
-          ∙ sym (ap (λ c. link (flag s (without (x.rows h g).home.holders s)) (flag s (without (x.rows h g).home.awaited s)) (body c).copied (body c).changed (body c).recall (body c).standing (body c).text (body c).down (body c).up) aw))
-        where
-          body : Bool → Link
-          body c = cond c (linked false false (x.rows s g) (x.texts s g) (downs g (taken s h x.lists h s)) (ups g (taken s h x.lists s h))) nobody
-      go false e = λ z. link (as_was (x.rows h g).home.holders e z) (as_was (x.rows h g).home.awaited e z) (link_other j e z).copied (link_other j e z).changed (link_other j e z).recall (link_other j e z).standing (link_other j e z).text (link_other j e z).down (link_other j e z).up
+  left_at j = grind (arith, nat_tests, at_link n h s g b x aw, link_here false false, flag_leave j s (x.rows h g).home.holders s8, flag_leave j s (x.rows h g).home.awaited s8, link_other j, aw)
 
   returned_is : (t : Text) → Sound n h (x.rows h g).home
       → returned_world n s (ups g rest) t (page_of n h b x g) ≡ view h t b (x.rows h g).standing (left_by s (x.rows h g).home) (links n h g x.rows x.texts (taken s h x.lists))
@@ -210,30 +121,24 @@ module _ (n h g s : ℕ) (b : Text) (x : State) (m : Msg) (rest : List Msg) (few
       o' = sound_leave n h (x.rows h g).home s s8 o
 
   asked_is : (v : Access) → places h (x.rows h g).home.queue ++ (theirs s v ∷ []) ≡ places h ((x.rows h g).home.queue ++ record { station = s; access = v } ∷ [])
-  asked_is v = sym (places_end h (x.rows h g).home.queue (record { station = s; access = v }) ∙ ap (λ c. places h (x.rows h g).home.queue ++ (cond c (mine v) (theirs s v) ∷ [])) (remote_not n h s aw))
+  asked_is v = sym (map-append (place h) (x.rows h g).home.queue (record { station = s; access = v } ∷ []) ∙ ap (λ c. places h (x.rows h g).home.queue ++ (cond c (mine v) (theirs s v) ∷ [])) (remote_not n h s aw))
 
   pub arrived_is : (k : Kind) (y : Text) → from_home k ≡ false → Sound n h (x.rows h g).home
       → arrived_world n s (as_up k y ++ ups g rest) (page_of n h b x g)
       ≡ serve_world n (view h (hear_text k y (x.texts h g)) b (hear_row k s (x.rows h g)).standing (hear_row k s (x.rows h g)).home (links n h g x.rows x.texts (taken s h x.lists)))
-  arrived_is SharedCopy y f o = never' f
-  arrived_is ExclusiveCopy y f o = never' f
-  arrived_is ModifyGrant y f o = never' f
-  arrived_is Invalidate y f o = never' f
   arrived_is ReadRequest y f o = λ z. serve_world n (world (x.rows h g).home.mode (x.rows h g).standing (x.texts h g) b (asked_is Read z) (fun_ext heard_at z))
   arrived_is WriteRequest y f o = λ z. serve_world n (world (x.rows h g).home.mode (x.rows h g).standing (x.texts h g) b (asked_is Write z) (fun_ext heard_at z))
   arrived_is Ack y f o = ap (serve_world n) (returned_is (x.texts h g) o)
   arrived_is AckWithText y f o = ap (serve_world n) (returned_is y o)
   arrived_is Flush y f o = ap (serve_world n) (returned_is (x.texts h g) o)
   arrived_is FlushWithText y f o = ap (serve_world n) (returned_is y o)
+  arrived_is _ y f o = never' f
 
   pub heard_sound : (k : Kind) → Sound n h (x.rows h g).home → Sound n h (hear_row k s (x.rows h g)).home
-  heard_sound SharedCopy o = o
-  heard_sound ExclusiveCopy o = o
-  heard_sound ModifyGrant o = o
-  heard_sound Invalidate o = o
   heard_sound ReadRequest o = sound_add n h (x.rows h g).home (record { station = s; access = Read }) o (remote_lt n h s aw)
   heard_sound WriteRequest o = sound_add n h (x.rows h g).home (record { station = s; access = Write }) o (remote_lt n h s aw)
   heard_sound Ack o = sound_leave n h (x.rows h g).home s s8 o
   heard_sound AckWithText o = sound_leave n h (x.rows h g).home s s8 o
   heard_sound Flush o = sound_leave n h (x.rows h g).home s s8 o
   heard_sound FlushWithText o = sound_leave n h (x.rows h g).home s s8 o
+  heard_sound _ o = o

@@ -1,11 +1,12 @@
 -- Every waiting message can be delivered; its delivery keeps the invariant of a house and lowers the potential of its page.
-use Rattle.std.proofs.Common.{◌≡◌, ℕ, ◌<◌, ◌≤◌, Bool, true, false, cond, not, ◌&&◌, eqb, ltb, List, [], ◌∷◌, ◌++◌, sym, refl, ap, ◌∙◌, subst, arith}
+use Rattle.std.proofs.Common.{◌≡◌, ℕ, ◌<◌, ◌≤◌, Bool, true, false, cond, not, ◌&&◌, eqb, ltb, List, [], ◌∷◌, ◌++◌, sym, refl, ap, ◌∙◌, subst, arith, length}
+use Rattle.std.proofs.lemmas.Bool.Decides.{nat_tests}
 use Rattle.std.proofs.lemmas.Bool.{eqb-true, lt-ltb, and_parts, and_right}
 use Rattle.line.specs.Messages.{Msg}
 use Rattle.line.specs.Lists.{Lists, taken, sent}
 use Rattle.notes.specs.Notes.{Notes}
 use Rattle.steps.specs.Steps.{Step}
-use Rattle.station.specs.declared.refusal.Place.TheVariants.{Pair}
+use Rattle.line.specs.Refusals.{between}
 use Rattle.station.specs.Refusals.{refused}
 use Rattle.steps.specs.Serving.{serve}
 use Rattle.delivery.specs.Deliveries.{from_home, received, expected}
@@ -13,7 +14,7 @@ use Rattle.station.specs.Calls.{refusing, making, number, has_room}
 use Rattle.delivery.specs.Taking.{delivering}
 use Rattle.law.specs.State.{State, state, deliver, at, left, dropped, delivered, does}
 use Rattle.law.specs.Law.{Fit}
-use Rattle.law.proofs.Model.{Text, Down, Up, Link, World, wish_in, remote, fits_down, received_link, serve_world, fits_up, arrived_world, local, size_down, size_up, potential, link_sum}
+use Rattle.law.proofs.Model.{Text, Down, Up, Link, World, wish_in, remote, fits_down, received_link, serve_world, fits_up, arrived_world, local, potential, link_sum}
 use Rattle.law.proofs.Phases.{receives, Heard, hears}
 use Rattle.law.proofs.Facts.{DownText, down_text, UpText, up_text}
 use Rattle.law.proofs.Desks.{eqb_same, Inv, keeps_local}
@@ -27,7 +28,7 @@ use Rattle.law.proofs.Links.{link_after, received_is, received_in, received_text
 use Rattle.law.proofs.Pages.{Sane, Moved}
 use Rattle.law.proofs.Steps.{at_link, serve_page, step_page, serve_moved, step_moved}
 use Rattle.law.proofs.Calls.{sound_here}
-use Rattle.law.proofs.Arrivals.{hear_row, hear_text, received_up, heard_length, some_up, some_down, expected_up, arrived_is, heard_sound}
+use Rattle.law.proofs.Arrivals.{hear_row, hear_text, received_up, heard_length, expected_up, arrived_is, heard_sound}
 
 -- what a delivery that is made leaves
 pub record Delivered (room n p : ℕ) (home : ℕ → ℕ) (book : ℕ → Text) (x : State) (a b g : ℕ) : Type 0 where
@@ -45,7 +46,7 @@ module _ (room n p : ℕ) (home : ℕ → ℕ) (fit : Fit room n p home) (book :
   accepted a b m rest is la lb off l ex o is-o =
       (λ z. cond (la z && (lb z && not (off z))) (delivered room n p home a b (is z) x) (false, x))
       ∙ ap (λ c. cond c (left b g (dropped a b (delivering a b h g room m r t x.lists)) x) (false, x)) (lt-ltb g p l)
-      ∙ (λ z. left b g (dropped a b (cond (ex z) (cond (free z) (making number x.lists (is-o z)) (refusing r t x.lists (refused 13 (Pair a b)))) (refusing r t x.lists (refused 12 (Pair a b))))) x)
+      ∙ (λ z. left b g (dropped a b (cond (ex z) (cond (free z) (making number x.lists (is-o z)) (refusing r t x.lists (refused 13 (between a b)))) (refusing r t x.lists (refused 12 (between a b))))) x)
       ∙ ap (λ (w : Lists). (true, state (at b g o.notes x.rows) (at b g o.text x.texts) w)) (sent_taken a b o.posts m rest x.lists is)
     where
       g : ℕ
@@ -72,7 +73,7 @@ module _ (room n p : ℕ) (home : ℕ → ℕ) (fit : Fit room n p home) (book :
         (received_text s h g m.kind m.text (book g) (downs g rest) (x.rows s g) (x.texts s g) down text (i.long s g l))
         (λ k e. taken_same k h s m rest x.lists is (turned k g e)) (clean_taken n p home h s x.lists i.clean);
     falls = subst (λ (z : World). link_sum n potential z.at < link_sum n potential w.at) (sym page_is)
-        (falls_down n h w s v aw (ap (λ (d : List Down). ltb 0 (size_down d)) at_down ∙ some_down m.kind m.text (downs g rest) down));
+        (falls_down n h w s v aw (ap (λ (d : List Down). ltb 0 (length d)) at_down ∙ grind (arith, nat_tests, down)));
   }
     where
       g : ℕ
@@ -200,8 +201,8 @@ module _ (room n p : ℕ) (home : ℕ → ℕ) (fit : Fit room n p home) (book :
       fits_now : fits_up (as_up m.kind m.text ++ ups g rest) w.mode (wish_in s w.queue) (w.at s) ≡ true
       fits_now = sym (λ z. fits_up (at_up z) w.mode (wish_in s w.queue) (w.at s)) ∙ fits_of heard
 
-      some_there : ltb 0 (size_up (w.at s).up) ≡ true
-      some_there = ap (λ (u : List Up). ltb 0 (size_up u)) at_up ∙ some_up m.kind m.text (ups g rest) up
+      some_there : ltb 0 (length (w.at s).up) ≡ true
+      some_there = ap (λ (u : List Up). ltb 0 (length u)) at_up ∙ grind (arith, nat_tests, up)
 
       ar : Kept n h w.at s (arrived_world n s (w.at s).up w)
       ar = arrival n h w s v aw some_there

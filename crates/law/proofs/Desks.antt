@@ -1,26 +1,23 @@
 -- What the home notes and all links together: the invariant of a page.
-use Rattle.std.proofs.Common.{◌≡◌, ℕ, zero, suc, ◌<◌, Bool, true, false, cond, ◌||◌, eqb, List, [], ◌∷◌, sym, refl, ap, ◌∙◌, subst, arith}
-use Rattle.std.proofs.lemmas.Bool.{eqb-true, eqb-false, eq-eqb}
+use Rattle.std.proofs.Common.{◌≡◌, ℕ, zero, suc, ◌<◌, Bool, true, false, ◌||◌, eqb, List, [], ◌∷◌, sym, refl, ◌∙◌, subst, arith, Option, Some, None}
+use Rattle.std.proofs.lemmas.Bool.Decides.{nat_tests}
+use Rattle.std.proofs.lemmas.Bool.{eqb-true, cond_both}
 use Rattle.notes.specs.declared.row.Access.{Access}
 use Rattle.notes.specs.declared.row.Standing.{Standing}
-use Rattle.notes.specs.declared.row.Standing.TheVariants.{Idle, Waiting, Open}
+use Rattle.notes.specs.declared.row.Standing.TheVariants.{Waiting}
 use Rattle.notes.specs.declared.row.Mode.{Mode}
 use Rattle.notes.specs.Notes.{is_open, is_writing}
 use Rattle.delivery.specs.Deliveries.{is_away}
-use Rattle.law.proofs.Model.{Text, Link, Place, mine, theirs, World, Asked, nothing, some, is_asked, wish_in, my_wish, remote, placed, none, local, nobody}
-use Rattle.law.proofs.Phases.{Phase, dirty, Tame, never, never'}
+use Rattle.law.proofs.Model.{Text, Link, Place, mine, theirs, World, wish_in, my_wish, remote, placed, none, local, nobody}
+use Rattle.law.proofs.Phases.{Phase, dirty, Tame, never'}
 use Rattle.law.proofs.Facts.{is_own}
 
 -- P of each, after one was put
 pub placed_all : (P : ℕ → Link → Type 0) (f : ℕ → Link) (k : ℕ) (q : Link) → ((j : ℕ) → eqb j k ≡ false → P j (f j)) → P k q → (j : ℕ) → P j (placed f k q j)
-placed_all P f k q others here j = go (eqb j k) refl
-  where
-    go : (b : Bool) → eqb j k ≡ b → P j (cond b q (f j))
-    go true e = subst (λ i. P i q) (sym (eqb-true j k e)) here
-    go false e = others j e
+placed_all P f k q others here j = cond_both (eqb j k) q (f j) (P j) (λ e. subst (λ i. P i q) (sym (eqb-true j k e)) here) (others j)
 
 pub eqb_same : (s : ℕ) → eqb s s ≡ true
-eqb_same s = eq-eqb s s refl
+eqb_same s = grind (arith, nat_tests)
 
 pub placed_same : (f : ℕ → Link) (k : ℕ) (q : Link) → placed f k q k ≡ q
 placed_same f k q = rw (eqb_same k)
@@ -31,31 +28,21 @@ placed_other f k q j e = rw e
 -- scans
 pub none_true : (n : ℕ) (p : ℕ → Bool) → none n p ≡ true → (j : ℕ) → j < n → p j ≡ false
 none_true zero p e j l = absurd (omega arith)
-none_true (suc n) p e j l = go (p n) refl e (none_true n p) (eqb j n) refl
-  where
-    go : (b : Bool) → p n ≡ b → cond b false (none n p) ≡ true → (none n p ≡ true → (i : ℕ) → i < n → p i ≡ false) → (c : Bool) → eqb j n ≡ c → p j ≡ false
-    go true h e ih c q = never e
-    go false h e ih true q = ap p (eqb-true j n q) ∙ h
-    go false h e ih false q = ih e j (let ne = eqb-false j n q in omega (arith, ne))
+none_true (suc n) p e j l = grind (arith, nat_tests, none_true n p)
 
 pub none_false : (n : ℕ) (p : ℕ → Bool) → none n p ≡ false → (j : ℕ) × (j < n) × (p j ≡ true)
 none_false zero p e = never' e
-none_false (suc n) p e = go (p n) refl e (none_false n p)
-  where
-    go : (b : Bool) → p n ≡ b → cond b false (none n p) ≡ false → (none n p ≡ false → (j : ℕ) × (j < n) × (p j ≡ true)) → (j : ℕ) × (j < suc n) × (p j ≡ true)
-    go true h e ih = (n, omega arith, h)
-    go false h e ih = let r = ih e in (r.0, (let l = r.1 in omega (arith, l)), r.2)
+none_false (suc n) p e = grind (arith, nat_tests, none_false n p)
 
 -- the queue
 abbrev pub Distinct : List Place → Type 0
 Distinct [] = Unit {0}
-Distinct (mine w ∷ q) = (my_wish q ≡ nothing) × Distinct q
-Distinct (theirs s w ∷ q) = (wish_in s q ≡ nothing) × Distinct q
+Distinct (mine w ∷ q) = (my_wish q ≡ None) × Distinct q
+Distinct (theirs s w ∷ q) = (wish_in s q ≡ None) × Distinct q
 
-abbrev pub wait_of : Standing → Asked
-wait_of Idle = nothing
-wait_of (Waiting w) = some w
-wait_of (Open w) = nothing
+abbrev pub wait_of : Standing → Option Access
+wait_of (Waiting w) = Some w
+wait_of _ = None
 
 abbrev pub is_empty : List Place → Bool
 is_empty [] = true
@@ -64,7 +51,7 @@ is_empty (e ∷ q) = false
 -- all but settled
 pub record Pre (n h : ℕ) (m : Mode) (g : Standing) (t b : Text) (f : ℕ → Link) (q : List Place) : Type 0 where
   pub links : (j : ℕ) → Phase b m (wish_in j q) (f j)
-  pub outside : (j : ℕ) → remote n h j ≡ false → (f j ≡ nobody) × (wish_in j q ≡ nothing)
+  pub outside : (j : ℕ) → remote n h j ≡ false → (f j ≡ nobody) × (wish_in j q ≡ None)
   pub distinct : Distinct q
   pub own_wish : my_wish q ≡ wait_of g
   pub held : is_own m ≡ false → (o : ℕ) × ((f o).holder ≡ true)
@@ -81,11 +68,11 @@ pub record Inv (n h : ℕ) (w : World) : Type 0 where
   pub pre : PreOf n h w w.queue
   pub settled : ((j : ℕ) → (w.at j).awaited ≡ false) → (is_empty w.queue || is_open w.home) ≡ true
 
-pub nothing_some : {w : Access} {A : Type 0} → some w ≡ nothing → A
-nothing_some e = never' (ap is_asked e)
+pub nothing_some : {w : Access} {A : Type 0} → Some w ≡ None → A
+nothing_some e = cc
 
 -- links that change, but for the home's notes of who holds
-pub record Alike (b : Text) (m : Mode) (q : Asked) (l k : Link) : Type 0 where
+pub record Alike (b : Text) (m : Mode) (q : Option Access) (l k : Link) : Type 0 where
   pub phase : Phase b m q k
   pub holder : k.holder ≡ l.holder
   pub dirty : dirty k ≡ dirty l
@@ -112,7 +99,7 @@ local_alike b m q f s k p t = placed_all (λ j l. Alike b m (wish_in j q) (f j) 
 pub local_still : (n h : ℕ) (f : ℕ → Link) (s : ℕ) (k : Link) → remote n h s ≡ true → (j : ℕ) → remote n h j ≡ false → placed f s k j ≡ f j
 local_still n h f s k r = placed_all (λ j l. remote n h j ≡ false → l ≡ f j) f s k (λ j e x. refl) (λ x. never' (sym r ∙ x))
 
-pub local_awaited : (b : Text) (m : Mode) (q : Asked) (f : ℕ → Link) (s : ℕ) (k : Link) → Tame b m q (f s) k → (j : ℕ) → (placed f s k j).awaited ≡ (f j).awaited
+pub local_awaited : (b : Text) (m : Mode) (q : Option Access) (f : ℕ → Link) (s : ℕ) (k : Link) → Tame b m q (f s) k → (j : ℕ) → (placed f s k j).awaited ≡ (f j).awaited
 local_awaited b m q f s k t = placed_all (λ j l. l.awaited ≡ (f j).awaited) f s k (λ j e. refl) t.awaited
 
 pub keeps_local : (n h : ℕ) (w : World) (s : ℕ) (k : Link) → remote n h s ≡ true → Inv n h w → Tame w.book w.mode (wish_in s w.queue) (w.at s) k → Inv n h (local s k w)

@@ -1,3 +1,4 @@
+pub mod Sums
 pub mod Model
 pub mod Phases
 pub mod Facts

@@ -1,30 +1,26 @@
 -- The lists of a line, page by page.
-use Rattle.std.proofs.Common.{◌≡◌, ℕ, ◌<◌, Bool, true, false, cond, ◌&&◌, eqb, List, [], ◌∷◌, ◌++◌, sym, refl, ap, ◌∙◌, subst, append_assoc, append-nil}
+use Rattle.std.proofs.Common.{◌≡◌, ℕ, ◌<◌, Bool, true, false, cond, ◌&&◌, eqb, List, [], ◌∷◌, ◌++◌, sym, refl, ap, ◌∙◌, subst, append_assoc, append-nil, arith}
 use mathlib.Core.Path.{fun_ext}
-use Rattle.std.proofs.lemmas.Bool.{eqb-true, eqb-false, eq-eqb, ne_eqb}
+use Rattle.std.proofs.lemmas.Bool.Decides.{nat_tests}
+use Rattle.std.proofs.lemmas.Bool.{eqb-true, eq-eqb, cond_both}
 use Rattle.line.specs.declared.kind.Kind.{Kind}
 use Rattle.line.specs.Messages.{Msg}
 use Rattle.line.specs.Lists.{Lists, posted, taken, sent}
 use Rattle.line.specs.Lists.{behind}
 use Rattle.delivery.specs.Deliveries.{from_home}
 use Rattle.law.proofs.Model.{Up, remote}
-use Rattle.law.proofs.Desks.{eqb_same}
 use Rattle.law.proofs.Views.{as_down, as_up, downs, ups}
 
 pub turned : (a b : ℕ) → eqb a b ≡ false → eqb b a ≡ false
-turned a b e = ne_eqb b a (λ z. eqb-false a b e (sym z))
+turned a b e = grind (arith, nat_tests)
 
 pub downs_append : (g : ℕ) (xs ys : List Msg) → downs g (xs ++ ys) ≡ downs g xs ++ downs g ys
 downs_append g [] ys = refl
-downs_append g (m ∷ xs) ys =
-    ap (λ r. cond (eqb m.page g) (as_down m.kind m.text) [] ++ r) (downs_append g xs ys)
-    ∙ sym (append_assoc (cond (eqb m.page g) (as_down m.kind m.text) []) (downs g xs) (downs g ys))
+downs_append g (m ∷ xs) ys = grind (arith, downs_append g xs ys, append_assoc (as_down m.kind m.text) (downs g xs) (downs g ys))
 
 pub ups_append : (g : ℕ) (xs ys : List Msg) → ups g (xs ++ ys) ≡ ups g xs ++ ups g ys
 ups_append g [] ys = refl
-ups_append g (m ∷ xs) ys =
-    ap (λ r. cond (eqb m.page g) (as_up m.kind m.text) [] ++ r) (ups_append g xs ys)
-    ∙ sym (append_assoc (cond (eqb m.page g) (as_up m.kind m.text) []) (ups g xs) (ups g ys))
+ups_append g (m ∷ xs) ys = grind (arith, ups_append g xs ys, append_assoc (as_up m.kind m.text) (ups g xs) (ups g ys))
 
 -- whether a message of this kind goes between the home h and a station away, and the right way
 abbrev pub goes : (n h a b : ℕ) → Kind → Bool
@@ -49,18 +45,10 @@ same_trans g w v u p q = record { down = λ a b. q.down a b ∙ p.down a b; up =
 -- a post about another page
 posted_same : (k g : ℕ) (m : Msg) (w : Lists) → m.page ≡ g → eqb g k ≡ false → Same k w (posted m w)
 unfolding posted
-posted_same k g m w q e = record { down = λ a b. go_down a b (eqb a m.sender && eqb b m.receiver); up = λ a b. go_up a b (eqb a m.sender && eqb b m.receiver) }
-  where
-    off : eqb m.page k ≡ false
-    off = ap (λ i. eqb i k) q ∙ e
-
-    go_down : (a b : ℕ) (c : Bool) → downs k (cond c (w a b ++ m ∷ []) (w a b)) ≡ downs k (w a b)
-    go_down a b true = downs_append k (w a b) (m ∷ []) ∙ ap (λ c. downs k (w a b) ++ (cond c (as_down m.kind m.text) [] ++ [])) off ∙ append-nil (downs k (w a b))
-    go_down a b false = refl
-
-    go_up : (a b : ℕ) (c : Bool) → ups k (cond c (w a b ++ m ∷ []) (w a b)) ≡ ups k (w a b)
-    go_up a b true = ups_append k (w a b) (m ∷ []) ∙ ap (λ c. ups k (w a b) ++ (cond c (as_up m.kind m.text) [] ++ [])) off ∙ append-nil (ups k (w a b))
-    go_up a b false = refl
+posted_same k g m w q e = record {
+  down = λ a b. grind (arith, nat_tests, q, e, downs_append k (w a b) (m ∷ []), append-nil (downs k (w a b)));
+  up = λ a b. grind (arith, nat_tests, q, e, ups_append k (w a b) (m ∷ []), append-nil (ups k (w a b)));
+}
 
 pub sent_same : (n h k g : ℕ) (ms : List Msg) (w : Lists) → Posts n h g ms → eqb g k ≡ false → Same k w (sent ms w)
 sent_same n h k g [] w o e = same_line k w
@@ -69,24 +57,14 @@ sent_same n h k g (m ∷ ms) w o e = same_trans k w (posted m w) (sent ms (poste
 -- the oldest message, about another page, is taken
 pub taken_same : (k a b : ℕ) (m : Msg) (rest : List Msg) (w : Lists) → w a b ≡ m ∷ rest → eqb m.page k ≡ false → Same k w (taken a b w)
 unfolding taken
-taken_same k a b m rest w e off = record { down = λ i j. go_down i j (eqb i a) (eqb j b) refl refl; up = λ i j. go_up i j (eqb i a) (eqb j b) refl refl }
-  where
-    here : (i j : ℕ) → eqb i a ≡ true → eqb j b ≡ true → w i j ≡ m ∷ rest
-    here i j p q = (λ z. w (eqb-true i a p z) (eqb-true j b q z)) ∙ e
-
-    go_down : (i j : ℕ) (c d : Bool) → eqb i a ≡ c → eqb j b ≡ d → downs k (cond (c && d) (behind (w i j)) (w i j)) ≡ downs k (w i j)
-    go_down i j true true p q = ap (λ ms. downs k (behind ms)) (here i j p q) ∙ sym (ap (downs k) (here i j p q) ∙ ap (λ c. cond c (as_down m.kind m.text) [] ++ downs k rest) off)
-    go_down i j true false p q = refl
-    go_down i j false d p q = refl
-
-    go_up : (i j : ℕ) (c d : Bool) → eqb i a ≡ c → eqb j b ≡ d → ups k (cond (c && d) (behind (w i j)) (w i j)) ≡ ups k (w i j)
-    go_up i j true true p q = ap (λ ms. ups k (behind ms)) (here i j p q) ∙ sym (ap (ups k) (here i j p q) ∙ ap (λ c. cond c (as_up m.kind m.text) [] ++ ups k rest) off)
-    go_up i j true false p q = refl
-    go_up i j false d p q = refl
+taken_same k a b m rest w e off = record {
+  down = λ i j. grind (arith, nat_tests, e, off);
+  up = λ i j. grind (arith, nat_tests, e, off);
+}
 
 pub taken_here : (a b : ℕ) (m : Msg) (rest : List Msg) (w : Lists) → w a b ≡ m ∷ rest → taken a b w a b ≡ rest
 unfolding taken
-taken_here a b m rest w e = rw (eqb_same a, eqb_same b) (ap behind e)
+taken_here a b m rest w e = grind (arith, nat_tests, e)
 
 pub taken_other : (a b i j : ℕ) (w : Lists) → (eqb i a && eqb j b) ≡ false → taken a b w i j ≡ w i j
 unfolding taken
@@ -95,22 +73,11 @@ taken_other a b i j w e = rw e
 -- posting behind the oldest, which is then taken
 posted_taken : (a b : ℕ) (x m : Msg) (rest : List Msg) (w : Lists) → w a b ≡ m ∷ rest → taken a b (posted x w) ≡ posted x (taken a b w)
 unfolding taken posted
-posted_taken a b x m rest w e = fun_ext (λ i. fun_ext (λ j. go i j (eqb i a) (eqb j b) refl refl (eqb i x.sender && eqb j x.receiver)))
-  where
-    go : (i j : ℕ) (c d : Bool) → eqb i a ≡ c → eqb j b ≡ d → (f : Bool)
-        → cond (c && d) (behind (cond f (w i j ++ x ∷ []) (w i j))) (cond f (w i j ++ x ∷ []) (w i j)) ≡ cond f (cond (c && d) (behind (w i j)) (w i j) ++ x ∷ []) (cond (c && d) (behind (w i j)) (w i j))
-    go i j true true p q true = let h = (λ z. w (eqb-true i a p z) (eqb-true j b q z)) ∙ e in ap (λ ms. behind (ms ++ x ∷ [])) h ∙ sym (ap (λ ms. behind ms ++ x ∷ []) h)
-    go i j true true p q false = refl
-    go i j true false p q f = refl
-    go i j false d p q f = refl
+posted_taken a b x m rest w e = fun_ext (λ i. fun_ext (λ j. grind (arith, nat_tests, e)))
 
 more_there : (a b : ℕ) (x m : Msg) (rest : List Msg) (w : Lists) → w a b ≡ m ∷ rest → (r : List Msg) × (posted x w a b ≡ m ∷ r)
 unfolding posted
-more_there a b x m rest w e = go (eqb a x.sender && eqb b x.receiver)
-  where
-    go : (c : Bool) → (r : List Msg) × (cond c (w a b ++ x ∷ []) (w a b) ≡ m ∷ r)
-    go true = (rest ++ x ∷ [], ap (λ ms. ms ++ x ∷ []) e)
-    go false = (rest, e)
+more_there a b x m rest w e = cond_both (eqb a x.sender && eqb b x.receiver) (w a b ++ x ∷ []) (w a b) (λ ms. (r : List Msg) × (ms ≡ m ∷ r)) (λ _. (rest ++ x ∷ [], ap (λ ms. ms ++ x ∷ []) e)) (λ _. (rest, e))
 
 pub sent_taken : (a b : ℕ) (ms : List Msg) (m : Msg) (rest : List Msg) (w : Lists) → w a b ≡ m ∷ rest → taken a b (sent ms w) ≡ sent ms (taken a b w)
 sent_taken a b [] m rest w e = refl
@@ -170,13 +137,8 @@ unfolding posted
 posted_apart s h i j m w p q e = ap (λ c. cond c (w i j ++ m ∷ []) (w i j)) ((λ z. eqb i (p z) && eqb j (q z)) ∙ e)
 
 pub inward_ups : (s h g : ℕ) (ms : List Msg) (w : Lists) → Inward s h g ms → ups g (sent ms w s h) ≡ ups g (w s h) ++ ups_in ms
-inward_ups s h g [] w o = sym (append-nil (ups g (w s h)))
-inward_ups s h g (m ∷ ms) w o =
-    inward_ups s h g ms (posted m w) o.4
-    ∙ ap (λ r. r ++ ups_in ms) (ap (ups g) (posted_here s h m w o.0 o.1) ∙ ups_append g (w s h) (m ∷ [])
-    ∙ ap (λ c. ups g (w s h) ++ (cond c (as_up m.kind m.text) [] ++ [])) (eq-eqb m.page g o.2)
-    ∙ ap (λ r. ups g (w s h) ++ r) (append-nil (as_up m.kind m.text)))
-    ∙ append_assoc (ups g (w s h)) (as_up m.kind m.text) (ups_in ms)
+inward_ups s h g [] w o = grind (arith, append-nil (ups g (w s h)))
+inward_ups s h g (m ∷ ms) w o = grind (arith, nat_tests, inward_ups s h g ms (posted m w) o.4, posted_here s h m w o.0 o.1, ups_append g (w s h) (m ∷ []), o.2, append-nil (as_up m.kind m.text), append_assoc (ups g (w s h)) (as_up m.kind m.text) (ups_in ms))
 
 pub inward_apart : (s h g i j : ℕ) (ms : List Msg) (w : Lists) → Inward s h g ms → (eqb i s && eqb j h) ≡ false → sent ms w i j ≡ w i j
 inward_apart s h g i j [] w o e = refl
@@ -184,9 +146,4 @@ inward_apart s h g i j (m ∷ ms) w o e = inward_apart s h g i j ms (posted m w)
 
 pub inward_posts : (n s h g : ℕ) (ms : List Msg) → remote n h s ≡ true → Inward s h g ms → Posts n h g ms
 inward_posts n s h g [] r o = tt
-inward_posts n s h g (m ∷ ms) r o = (
-  o.2,
-  ap (λ c. cond c (eqb m.sender h && remote n h m.receiver) (eqb m.receiver h && remote n h m.sender)) o.3
-      ∙ (λ z. eqb (o.1 z) h && remote n h (o.0 z)) ∙ ap (λ c. c && remote n h s) (eqb_same h) ∙ r,
-  inward_posts n s h g ms r o.4,
-)
+inward_posts n s h g (m ∷ ms) r o = (o.2, grind (arith, nat_tests, o, r), inward_posts n s h g ms r o.4)

@@ -1,10 +1,12 @@
 -- One page as a transition system: what its home notes, a link for each station away from home (what the home notes of
 -- it, its row, and the messages on their way both ways), and what each step does to them.
-use Rattle.std.proofs.Common.{ℕ, zero, suc, ◌+◌, Bool, true, false, cond, not, ◌&&◌, ◌||◌, eqb, ltb, List, [], ◌∷◌, ◌++◌}
+use Rattle.std.proofs.Common.{ℕ, zero, suc, ◌+◌, Bool, true, false, cond, not, ◌&&◌, ◌||◌, eqb, ltb, Option, Some, None, List, [], ◌∷◌, ◌++◌, length}
+use Rattle.std.specs.Option.{is_some}
+use Rattle.line.specs.Lists.{sum_to}
 use Rattle.notes.specs.declared.row.Access.{Access}
 use Rattle.notes.specs.declared.row.Access.TheVariants.{Read, Write}
 use Rattle.notes.specs.declared.row.CopyKind.{CopyKind}
-use Rattle.notes.specs.declared.row.CopyKind.TheVariants.{None as NoCopy, Shared, Exclusive}
+use Rattle.notes.specs.declared.row.CopyKind.TheVariants.{Shared, Exclusive}
 use Rattle.notes.specs.declared.row.Standing.{Standing}
 use Rattle.notes.specs.declared.row.Standing.TheVariants.{Idle, Waiting, Open}
 use Rattle.notes.specs.declared.row.Mode.{Mode}
@@ -36,7 +38,7 @@ pub data Up : Type 0 where
 pub record Link : Type 0 where
   pub holder : Bool
   pub awaited : Bool
-  pub copied : CopyKind
+  pub copied : Option CopyKind
   pub changed : Bool
   pub recall : Bool
   pub standing : Standing
@@ -44,7 +46,7 @@ pub record Link : Type 0 where
   pub down : List Down
   pub up : List Up
 
-abbrev pub link : Bool → Bool → CopyKind → Bool → Bool → Standing → Text → List Down → List Up → Link
+abbrev pub link : Bool → Bool → Option CopyKind → Bool → Bool → Standing → Text → List Down → List Up → Link
 link h a c g r s t d u = record { holder = h; awaited = a; copied = c; changed = g; recall = r; standing = s; text = t; down = d; up = u }
 
 -- an entry of the queue: the home's own wish, or that of a station away
@@ -63,23 +65,14 @@ pub record World : Type 0 where
 abbrev pub world : Mode → Standing → Text → Text → List Place → (ℕ → Link) → World
 world m h t b q f = record { mode = m; home = h; text = t; book = b; queue = q; at = f }
 
--- what a station has asked for, as the queue has it
-pub data Asked : Type 0 where
-  nothing : Asked
-  some : Access → Asked
-
-abbrev pub is_asked : Asked → Bool
-is_asked nothing = false
-is_asked (some w) = true
-
-abbrev pub wish_in : ℕ → List Place → Asked
-wish_in s [] = nothing
+abbrev pub wish_in : ℕ → List Place → Option Access
+wish_in s [] = None
 wish_in s (mine w ∷ q) = wish_in s q
-wish_in s (theirs k w ∷ q) = cond (eqb s k) (some w) (wish_in s q)
+wish_in s (theirs k w ∷ q) = cond (eqb s k) (Some w) (wish_in s q)
 
-abbrev pub my_wish : List Place → Asked
-my_wish [] = nothing
-my_wish (mine w ∷ q) = some w
+abbrev pub my_wish : List Place → Option Access
+my_wish [] = None
+my_wish (mine w ∷ q) = Some w
 my_wish (theirs k w ∷ q) = my_wish q
 
 -- a station away from home: below n, and not the home h
@@ -95,7 +88,7 @@ dirty_row l = is_exclusive l.copied && l.changed
 
 -- giving back: f is true for a flush
 abbrev pub give_link : Bool → Link → Link
-give_link f l = link l.holder l.awaited NoCopy false false l.standing l.text l.down
+give_link f l = link l.holder l.awaited None false false l.standing l.text l.down
     (l.up ++ (cond (dirty_row l) (full f l.text) (thin f) ∷ []))
 
 abbrev pub stand_link : Standing → Link → Link
@@ -135,9 +128,9 @@ called_link l = cond (is_none l.copied) l (cond (is_open l.standing) (mark_link 
 
 abbrev pub received_link : List Down → Link → Link
 received_link [] l = l
-received_link (copy Read t ∷ d) l = link l.holder l.awaited Shared l.changed l.recall (Open Read) t d l.up
-received_link (copy Write t ∷ d) l = link l.holder l.awaited Exclusive false l.recall (Open Write) t d l.up
-received_link (modify ∷ d) l = link l.holder l.awaited Exclusive false l.recall (Open Write) l.text d l.up
+received_link (copy Read t ∷ d) l = link l.holder l.awaited (Some Shared) l.changed l.recall (Open Read) t d l.up
+received_link (copy Write t ∷ d) l = link l.holder l.awaited (Some Exclusive) false l.recall (Open Write) t d l.up
+received_link (modify ∷ d) l = link l.holder l.awaited (Some Exclusive) false l.recall (Open Write) l.text d l.up
 received_link (invalidate ∷ d) l = called_link (behind_link d l)
 
 -- what the home does to a link
@@ -161,9 +154,8 @@ left_link u l = link false false l.copied l.changed l.recall l.standing l.text l
 
 -- serving
 abbrev pub other : Place → ℕ → Bool
-other (mine w) j = true
-other (theirs s Read) j = true
 other (theirs s Write) j = not (eqb j s)
+other _ j = true
 
 abbrev pub in_way : Place → (ℕ → Link) → ℕ → Bool
 in_way e f j = (f j).holder && other e j
@@ -232,10 +224,10 @@ abbrev pub serve_world : ℕ → World → World
 serve_world n w = served_world n w w.queue
 
 -- a message to the home, and its needs
-abbrev pub fits_up : List Up → Mode → Asked → Link → Bool
+abbrev pub fits_up : List Up → Mode → Option Access → Link → Bool
 fits_up [] m a l = true
-fits_up (wants Read ∷ u) m a l = not (is_asked a) && not l.holder
-fits_up (wants Write ∷ u) m a l = not (is_asked a) && not (is_away m && l.holder)
+fits_up (wants Read ∷ u) m a l = not (is_some a) && not l.holder
+fits_up (wants Write ∷ u) m a l = not (is_some a) && not (is_away m && l.holder)
 fits_up (thin false ∷ u) m a l = l.awaited
 fits_up (thin true ∷ u) m a l = l.holder
 fits_up (full false t ∷ u) m a l = l.awaited && is_away m
@@ -254,20 +246,12 @@ abbrev pub local : ℕ → Link → World → World
 local s l w = world w.mode w.home w.text w.book w.queue (placed w.at s l)
 
 abbrev pub nobody : Link
-nobody = link false false NoCopy false false Idle [] [] []
+nobody = link false false None false false Idle [] [] []
 
 -- the potential
 abbrev pub one : Bool → ℕ
 one true = 1
 one false = 0
-
-abbrev pub size_down : List Down → ℕ
-size_down [] = 0
-size_down (x ∷ d) = suc (size_down d)
-
-abbrev pub size_up : List Up → ℕ
-size_up [] = 0
-size_up (x ∷ d) = suc (size_up d)
 
 abbrev pub is_granted : List Down → Bool
 is_granted [] = false
@@ -282,7 +266,7 @@ is_raised (modify ∷ d) = true
 is_raised (invalidate ∷ d) = is_raised d
 
 abbrev pub messages : Link → ℕ
-messages l = size_down l.down + size_up l.up
+messages l = length l.down + length l.up
 
 abbrev pub potential : Link → ℕ
 potential l = messages l
@@ -291,5 +275,4 @@ potential l = messages l
     + one (not (is_none l.copied) && (not (is_open l.standing) && not (is_raised l.down)))))
 
 abbrev pub link_sum : ℕ → (Link → ℕ) → (ℕ → Link) → ℕ
-link_sum zero g f = 0
-link_sum (suc k) g f = link_sum k g f + g (f k)
+link_sum n g f = sum_to n (λ j. g (f j))

@@ -1,72 +1,57 @@
 -- Each call and each delivery keeps the invariant of a page, and each delivery lowers its potential.
-use Rattle.std.proofs.Common.{◌≡◌, ℕ, Bool, true, false, cond, eqb, ltb, List, [], ◌∷◌, ◌++◌, sym, refl, ap, ◌∙◌, subst, arith}
-use Rattle.std.proofs.lemmas.Bool.{ltb-true, ltb-false, eqb-true, eqb-false, lt-ltb, ne_eqb}
+use Rattle.std.proofs.Common.{◌≡◌, ℕ, Bool, true, false, cond, eqb, ltb, List, [], ◌∷◌, ◌++◌, sym, refl, ap, ◌∙◌, subst, arith, Option, Some, None, length}
+use Rattle.std.proofs.lemmas.Bool.Decides.{nat_tests}
+use Rattle.std.proofs.lemmas.Bool.{eqb-false, false_from_ne_true, both_ways, cond_both}
 use Rattle.notes.specs.declared.row.Access.{Access}
-use Rattle.notes.specs.declared.row.Standing.{Standing}
-use Rattle.notes.specs.declared.row.Standing.TheVariants.{Idle, Waiting, Open}
+use Rattle.notes.specs.declared.row.Standing.TheVariants.{Idle, Waiting}
 use Rattle.notes.specs.declared.row.Mode.{Mode}
 use Rattle.notes.specs.declared.row.Mode.TheVariants.{Own}
 use Rattle.notes.specs.Notes.{is_idle, is_open, is_writing}
-use Rattle.delivery.specs.Deliveries.{is_away}
-use Rattle.law.proofs.Model.{Text, Up, Link, Place, mine, theirs, World, world, Asked, nothing, some, wish_in, my_wish, remote, placed, written_link, heard_link, left_link, unheld, serve_world, fits_up, returned_world, arrived_world, nobody, size_up, potential}
+use Rattle.law.proofs.Model.{Text, Up, Link, Place, mine, theirs, World, world, wish_in, my_wish, remote, placed, written_link, heard_link, left_link, unheld, serve_world, fits_up, returned_world, arrived_world, nobody, potential}
 use Rattle.law.proofs.Phases.{Phase, dirty, Tame, never, never', Left, Heard, silent, asks, thins, fulls, writing, free}
 use Rattle.law.proofs.Facts.{is_own, holder_mode, writes_away, written_dirty}
-use Rattle.law.proofs.Desks.{placed_all, eqb_same, placed_same, placed_other, none_false, Distinct, wait_of, Pre, PreOf, Inv, nothing_some, local_still}
+use Rattle.law.proofs.Desks.{placed_all, placed_same, placed_other, none_false, Distinct, Pre, PreOf, Inv, local_still}
 use Rattle.law.proofs.Serves.{outside_free, nowhere, Settled, serve_keeps}
 
 -- the end of the queue
-end_wish : (s : ℕ) (v : Access) (q : List Place) → wish_in s q ≡ nothing → wish_in s (q ++ (theirs s v ∷ [])) ≡ some v
-end_wish s v [] e = rw (eqb_same s)
-end_wish s v (mine u ∷ q) e = end_wish s v q e
-end_wish s v (theirs k u ∷ q) e = go (eqb s k) e (end_wish s v q)
-  where
-    go : (c : Bool) → cond c (some u) (wish_in s q) ≡ nothing → (wish_in s q ≡ nothing → wish_in s (q ++ (theirs s v ∷ [])) ≡ some v) → cond c (some u) (wish_in s (q ++ (theirs s v ∷ []))) ≡ some v
-    go true x ih = nothing_some x
-    go false x ih = ih x
+end_wish : (s : ℕ) (v : Access) (q : List Place) → wish_in s q ≡ None → wish_in s (q ++ (theirs s v ∷ [])) ≡ Some v
+end_wish s v [] e = grind (arith, nat_tests)
+end_wish s v (_ ∷ q) e = grind (arith, end_wish s v q)
 
 end_other : (s : ℕ) (v : Access) (q : List Place) (j : ℕ) → eqb j s ≡ false → wish_in j (q ++ (theirs s v ∷ [])) ≡ wish_in j q
-end_other s v [] j e = rw e
-end_other s v (mine u ∷ q) j e = end_other s v q j e
-end_other s v (theirs k u ∷ q) j e = ap (λ x. cond (eqb j k) (some u) x) (end_other s v q j e)
+end_other s v [] j e = grind arith
+end_other s v (_ ∷ q) j e = grind (arith, end_other s v q j e)
 
 end_mine : (v : Access) (q : List Place) (j : ℕ) → wish_in j (q ++ (mine v ∷ [])) ≡ wish_in j q
 end_mine v [] j = refl
-end_mine v (mine u ∷ q) j = end_mine v q j
-end_mine v (theirs k u ∷ q) j = ap (λ x. cond (eqb j k) (some u) x) (end_mine v q j)
+end_mine v (_ ∷ q) j = grind (arith, end_mine v q j)
 
-my_end : (v : Access) (q : List Place) → my_wish q ≡ nothing → my_wish (q ++ (mine v ∷ [])) ≡ some v
+my_end : (v : Access) (q : List Place) → my_wish q ≡ None → my_wish (q ++ (mine v ∷ [])) ≡ Some v
 my_end v [] e = refl
-my_end v (mine u ∷ q) e = nothing_some e
-my_end v (theirs k u ∷ q) e = my_end v q e
+my_end v (_ ∷ q) e = grind (arith, my_end v q)
 
 my_other : (s : ℕ) (v : Access) (q : List Place) → my_wish (q ++ (theirs s v ∷ [])) ≡ my_wish q
 my_other s v [] = refl
-my_other s v (mine u ∷ q) = refl
-my_other s v (theirs k u ∷ q) = my_other s v q
+my_other s v (_ ∷ q) = grind (arith, my_other s v q)
 
-distinct_mine : (v : Access) (q : List Place) → my_wish q ≡ nothing → Distinct q → Distinct (q ++ (mine v ∷ []))
+distinct_mine : (v : Access) (q : List Place) → my_wish q ≡ None → Distinct q → Distinct (q ++ (mine v ∷ []))
 distinct_mine v [] e d = (refl, tt)
-distinct_mine v (mine u ∷ q) e d = nothing_some e
-distinct_mine v (theirs k u ∷ q) e d = (end_mine v q k ∙ d.0, distinct_mine v q e d.1)
+distinct_mine v (mine u ∷ q) e d = grind (arith, e)
+distinct_mine v (theirs k u ∷ q) e d = (grind (arith, end_mine v q k, d.0), distinct_mine v q e d.1)
 
-distinct_theirs : (s : ℕ) (v : Access) (q : List Place) → wish_in s q ≡ nothing → Distinct q → Distinct (q ++ (theirs s v ∷ []))
+distinct_theirs : (s : ℕ) (v : Access) (q : List Place) → wish_in s q ≡ None → Distinct q → Distinct (q ++ (theirs s v ∷ []))
 distinct_theirs s v [] e d = (refl, tt)
 distinct_theirs s v (mine u ∷ q) e d = (my_other s v q ∙ d.0, distinct_theirs s v q e d.1)
-distinct_theirs s v (theirs k u ∷ q) e d = go (eqb s k) refl e (distinct_theirs s v q)
-  where
-    go : (c : Bool) → eqb s k ≡ c → cond c (some u) (wish_in s q) ≡ nothing → (wish_in s q ≡ nothing → Distinct q → Distinct (q ++ (theirs s v ∷ [])))
-        → (wish_in k (q ++ (theirs s v ∷ [])) ≡ nothing) × Distinct (q ++ (theirs s v ∷ []))
-    go true x y ih = nothing_some y
-    go false x y ih = (end_other s v q k (ne_eqb k s (λ z. eqb-false s k x (sym z))) ∙ d.0, ih y d.1)
+distinct_theirs s v (theirs k u ∷ q) e d = grind (arith, nat_tests, end_other s v q k, distinct_theirs s v q)
 
 -- a request comes to the home
-request_pre : (n h : ℕ) (w : World) (s : ℕ) (v : Access) (k : Link) → remote n h s ≡ true → Inv n h w → wish_in s w.queue ≡ nothing → Tame w.book w.mode (some v) (w.at s) k
+request_pre : (n h : ℕ) (w : World) (s : ℕ) (v : Access) (k : Link) → remote n h s ≡ true → Inv n h w → wish_in s w.queue ≡ None → Tame w.book w.mode (Some v) (w.at s) k
     → Pre n h w.mode w.home w.text w.book (placed w.at s k) (w.queue ++ (theirs s v ∷ []))
 request_pre n h w s v k r i e t = record {
   links = placed_all (λ j l. Phase w.book w.mode (wish_in j q') l) w.at s k
       (λ j x. subst (λ y. Phase w.book w.mode y (w.at j)) (sym (end_other s v w.queue j x)) (p.links j))
       (subst (λ y. Phase w.book w.mode y k) (sym (end_wish s v w.queue e)) t.phase);
-  outside = placed_all (λ j l. remote n h j ≡ false → (l ≡ nobody) × (wish_in j q' ≡ nothing)) w.at s k
+  outside = placed_all (λ j l. remote n h j ≡ false → (l ≡ nobody) × (wish_in j q' ≡ None)) w.at s k
       (λ j x y. ((p.outside j y).0, end_other s v w.queue j x ∙ (p.outside j y).1))
       (λ y. never' (sym r ∙ y));
   distinct = distinct_theirs s v w.queue e p.distinct;
@@ -91,9 +76,8 @@ request_pre n h w s v k r i e t = record {
     news = placed_all (λ j l. dirty l ≡ dirty (w.at j)) w.at s k (λ j x. refl) t.dirty
 
 -- a copy comes back to the home
-mode_free : (b : Text) (m : Mode) (q : Asked) (l : Link) (c : Bool) → (c ≡ true → l.holder ≡ false) → Phase b m q l → Phase b (cond c Own m) q l
-mode_free b m q l true e p = free b Own p (e refl)
-mode_free b m q l false e p = p
+mode_free : (b : Text) (m : Mode) (q : Option Access) (l : Link) (c : Bool) → (c ≡ true → l.holder ≡ false) → Phase b m q l → Phase b (cond c Own m) q l
+mode_free b m q l c e p = cond_both c Own m (λ x. Phase b x q l) (λ x. free b Own p (e x)) (λ _. p)
 
 return_pre : (n h : ℕ) (w : World) (s : ℕ) (u : List Up) (t : Text) → remote n h s ≡ true → Inv n h w → Left w.book (wish_in s w.queue) (w.at s) u
     → (((j : ℕ) → dirty (placed w.at s (left_link u (w.at s)) j) ≡ false) → t ≡ w.book)
@@ -105,10 +89,10 @@ return_pre n h w s u t r i v f = record {
   outside = λ j x. (out j x ∙ (p.outside j x).0, (p.outside j x).1);
   distinct = p.distinct;
   own_wish = p.own_wish;
-  held = held_by c refl;
-  single = λ x i j y z. p.single (away_was c x) i j (was i y) (was j z);
+  held = held_by;
+  single = λ x i j y z. p.single (grind (arith, x)) i j (was i y) (was j z);
   home_writes = λ x. never' (sym (p.home_writes x) ∙ holder_mode (p.links s) v.held);
-  home_open = λ x. away_stays c (p.home_open x);
+  home_open = λ x. grind (arith, p.home_open x);
   fresh = f;
 }
   where
@@ -134,17 +118,8 @@ return_pre n h w s u t r i v f = record {
     was : (j : ℕ) → (placed w.at s k j).holder ≡ true → (w.at j).holder ≡ true
     was = placed_all (λ j l. l.holder ≡ true → (w.at j).holder ≡ true) w.at s k (λ j x y. y) never
 
-    held_by : (d : Bool) → c ≡ d → is_own (cond d Own w.mode) ≡ false → (o : ℕ) × ((placed w.at s k o).holder ≡ true)
-    held_by true x y = never' y
-    held_by false x y = let o = none_false n (λ j. (placed w.at s k j).holder) x in (o.0, o.2)
-
-    away_was : (d : Bool) → is_away (cond d Own w.mode) ≡ true → is_away w.mode ≡ true
-    away_was true x = never x
-    away_was false x = x
-
-    away_stays : (d : Bool) → is_away w.mode ≡ false → is_away (cond d Own w.mode) ≡ false
-    away_stays true x = refl
-    away_stays false x = x
+    held_by : is_own m' ≡ false → (o : ℕ) × ((placed w.at s k o).holder ≡ true)
+    held_by y = let o = none_false n (λ j. (placed w.at s k j).holder) (grind (arith, y)) in (o.0, o.2)
 
 -- what a step does
 pub record Kept (n h : ℕ) (f : ℕ → Link) (s : ℕ) (w : World) : Type 0 where
@@ -152,48 +127,30 @@ pub record Kept (n h : ℕ) (f : ℕ → Link) (s : ℕ) (w : World) : Type 0 wh
   pub others : (j : ℕ) → eqb j s ≡ false → ltb (potential (f j)) (potential (w.at j)) ≡ false
   pub here : ltb (potential (w.at s)) (potential (f s)) ≡ true
 
-lt_le : (x y z : ℕ) → ltb x y ≡ true → ltb x z ≡ false → ltb z y ≡ true
-lt_le x y z a b = let k = ltb-true x y a in let l = ltb-false x z b in lt-ltb z y (omega (arith, k, l))
-
 -- after a change of the link s alone, and serving
 after_serve : (n h : ℕ) (f : ℕ → Link) (s : ℕ) (k : Link) (w : World) → Settled n h (placed f s k) w → ltb (potential k) (potential (f s)) ≡ true → Kept n h f s w
 after_serve n h f s k w v e = record {
   inv = v.inv;
-  others = λ j x. subst (λ (l : Link). ltb (potential l) (potential (w.at j)) ≡ false) (placed_other f s k j x) (v.no_more j);
-  here = lt_le (potential k) (potential (f s)) (potential (w.at s)) e (subst (λ (l : Link). ltb (potential l) (potential (w.at s)) ≡ false) (placed_same f s k) (v.no_more s));
+  others = λ j x. grind (arith, x, v.no_more j);
+  here = grind (arith, nat_tests, e, v.no_more s);
 }
 
 pub arrives : (n h : ℕ) (w : World) (s : ℕ) (u : List Up) → remote n h s ≡ true → Inv n h w → Heard w.book w.mode (wish_in s w.queue) (w.at s) u
-    → ltb 0 (size_up u) ≡ true → Kept n h w.at s (arrived_world n s u w)
+    → ltb 0 (length u) ≡ true → Kept n h w.at s (arrived_world n s u w)
 arrives n h w s _ r i silent e = never e
 arrives n h w s _ r i (asks v u x t y z) e = after_serve n h w.at s (heard_link u (w.at s)) _
     (serve_keeps n h (world w.mode w.home w.text w.book (w.queue ++ (theirs s v ∷ [])) (placed w.at s (heard_link u (w.at s)))) (request_pre n h w s v (heard_link u (w.at s)) r i x t)) z
 arrives n h w s _ r i (thins f u v x y) e = after_serve n h w.at s (left_link u (w.at s)) _
-    (serve_keeps n h (returned_world n s u w.text w) (return_pre n h w s u w.text r i v (λ a. i.pre.fresh (λ j. news a j (eqb j s) refl)))) v.falls
+    (serve_keeps n h (returned_world n s u w.text w) (return_pre n h w s u w.text r i v (λ a. i.pre.fresh (news a)))) v.falls
   where
-    news : ((j : ℕ) → dirty (placed w.at s (left_link u (w.at s)) j) ≡ false) → (j : ℕ) (c : Bool) → eqb j s ≡ c → dirty (w.at j) ≡ false
-    news a j true q = subst (λ i. dirty (w.at i) ≡ false) (sym (eqb-true j s q)) x
-    news a j false q = subst (λ (l : Link). dirty l ≡ false) (placed_other w.at s (left_link u (w.at s)) j q) (a j)
+    news : ((j : ℕ) → dirty (placed w.at s (left_link u (w.at s)) j) ≡ false) → (j : ℕ) → dirty (w.at j) ≡ false
+    news a j = grind (arith, nat_tests, x, a j)
 arrives n h w s _ r i (fulls f t u v x y) e = after_serve n h w.at s (left_link u (w.at s)) _
     (serve_keeps n h (returned_world n s u t w) (return_pre n h w s u t r i v (λ _. x))) v.falls
 
 -- the home's own calls
-rests_wait : (g : Standing) → is_idle g ≡ true → wait_of g ≡ nothing
-rests_wait Idle e = refl
-rests_wait (Waiting w) e = never e
-rests_wait (Open w) e = refl
-
-open_wait : (g : Standing) → is_open g ≡ true → wait_of g ≡ nothing
-open_wait Idle e = refl
-open_wait (Waiting w) e = never e
-open_wait (Open w) e = refl
-
-own_free : {b : Text} {m : Mode} {q : Asked} {l : Link} → Phase b m q l → is_own m ≡ true → l.holder ≡ false
-own_free {m = m} {l = l} p e = go l.holder refl
-  where
-    go : (c : Bool) → l.holder ≡ c → c ≡ false
-    go true x = never' (sym e ∙ holder_mode p x)
-    go false x = refl
+own_free : {b : Text} {m : Mode} {q : Option Access} {l : Link} → Phase b m q l → is_own m ≡ true → l.holder ≡ false
+own_free {l = l} p e = false_from_ne_true l.holder (λ x. both_ways _ (holder_mode p x) e)
 
 pub home_starts : (n h : ℕ) (w : World) (v : Access) → is_idle w.home ≡ true → Inv n h w → Inv n h (serve_world n (world w.mode (Waiting v) w.text w.book (w.queue ++ (mine v ∷ [])) w.at))
 home_starts n h w v r i = (serve_keeps n h (world w.mode (Waiting v) w.text w.book (w.queue ++ (mine v ∷ [])) w.at) (record {
@@ -208,15 +165,15 @@ home_starts n h w v r i = (serve_keeps n h (world w.mode (Waiting v) w.text w.bo
   fresh = i.pre.fresh;
 })).inv
   where
-    none_mine : my_wish w.queue ≡ nothing
-    none_mine = i.pre.own_wish ∙ rests_wait w.home r
+    none_mine : my_wish w.queue ≡ None
+    none_mine = grind (arith, i.pre.own_wish, r)
 
 pub home_ends : (n h : ℕ) (w : World) → is_open w.home ≡ true → Inv n h w → Inv n h (serve_world n (world w.mode Idle w.text w.book w.queue w.at))
 home_ends n h w r i = (serve_keeps n h (world w.mode Idle w.text w.book w.queue w.at) (record {
   links = i.pre.links;
   outside = i.pre.outside;
   distinct = i.pre.distinct;
-  own_wish = i.pre.own_wish ∙ open_wait w.home r;
+  own_wish = grind (arith, i.pre.own_wish, r);
   held = i.pre.held;
   single = i.pre.single;
   home_writes = never;
@@ -271,13 +228,9 @@ puts n h w s t r e i = record {
     awaits = placed_all (λ j l. l.awaited ≡ (w.at j).awaited) w.at s k (λ j x. refl) refl
 
     others : (j : ℕ) → eqb j s ≡ false → (w.at j).holder ≡ false
-    others j x = go (w.at j).holder refl
-      where
-        go : (c : Bool) → (w.at j).holder ≡ c → c ≡ false
-        go true y = absurd (eqb-false j s x (p.single (writes_away (p.links s) e).1 j s y (writes_away (p.links s) e).0))
-        go false y = refl
+    others j x = false_from_ne_true (w.at j).holder (λ y. eqb-false j s x (p.single (writes_away (p.links s) e).1 j s y (writes_away (p.links s) e).0))
 
-pub fits_of : {b : Text} {m : Mode} {q : Asked} {l : Link} {u : List Up} → Heard b m q l u → fits_up u m q l ≡ true
+pub fits_of : {b : Text} {m : Mode} {q : Option Access} {l : Link} {u : List Up} → Heard b m q l u → fits_up u m q l ≡ true
 fits_of silent = refl
 fits_of (asks v u x t y z) = y
 fits_of (thins f u v x y) = y

@@ -1,11 +1,12 @@
 -- What a step does to each page of a house, and the invariant of a house.
-use Rattle.std.proofs.Common.{◌≡◌, ℕ, ◌<◌, Bool, true, false, cond, ◌&&◌, eqb, List, length, sym, refl, ap, ◌∙◌, subst}
+use Rattle.std.proofs.Common.{◌≡◌, ℕ, ◌<◌, Bool, true, false, cond, eqb, List, length, sym, refl, ap, ◌∙◌, subst, arith}
 use mathlib.Core.Path.{fun_ext}
+use Rattle.std.proofs.lemmas.Bool.Decides.{nat_tests}
 use Rattle.std.proofs.lemmas.Bool.{eqb-true, and_right}
 use Rattle.line.specs.Lists.{Lists}
 use Rattle.notes.specs.Notes.{Notes}
 use Rattle.law.specs.State.{State, state, at}
-use Rattle.law.proofs.Model.{Text, Down, Up, Link, link, world, remote, placed, local, nobody}
+use Rattle.law.proofs.Model.{Text, Down, Up, Link, world, remote, placed, local, nobody}
 use Rattle.law.proofs.Desks.{eqb_same, Inv}
 use Rattle.law.proofs.Flags.{flag}
 use Rattle.law.proofs.Views.{downs, ups, places, linked, links, noted, view, page_of, holds, awaits}
@@ -24,12 +25,7 @@ module _ {A : Type 0} (s g : ℕ) (v : A) (f : ℕ → ℕ → A) where
   at_station i j e = rw e
 
 pub at_same : {A : Type 0} (s g : ℕ) (f : ℕ → ℕ → A) → at s g (f s g) f ≡ f
-at_same s g f = fun_ext (λ i. fun_ext (λ j. go i j (eqb i s) (eqb j g) refl refl))
-  where
-    go : (i j : ℕ) (c d : Bool) → eqb i s ≡ c → eqb j g ≡ d → cond (c && d) (f s g) (f i j) ≡ f i j
-    go i j true true p q = λ z. f (sym (eqb-true i s p) z) (sym (eqb-true j g q) z)
-    go i j true false p q = refl
-    go i j false d p q = refl
+at_same s g f = fun_ext (λ i. fun_ext (λ j. grind (arith, nat_tests)))
 
 -- a page that a step does not touch
 pub other_page : (n h k : ℕ) (b c : Text) (x y : State) → c ≡ b → ((j : ℕ) → y.rows j k ≡ x.rows j k) → ((j : ℕ) → y.texts j k ≡ x.texts j k) → Same k x.lists y.lists
@@ -44,12 +40,7 @@ home_page n h g b x r t w =
     λ i. view h (at_here h g t x.texts i) b (at_here h g r x.rows i).standing (at_here h g r x.rows i).home (fun_ext there i)
   where
     there : (j : ℕ) → links n h g (at h g r x.rows) (at h g t x.texts) w j ≡ links n h g x.rows x.texts w j
-    there j = go (remote n h j) refl
-      where
-        go : (c : Bool) → remote n h j ≡ c → cond c (linked false false (at h g r x.rows j g) (at h g t x.texts j g) (downs g (w h j)) (ups g (w j h))) nobody
-            ≡ cond c (linked false false (x.rows j g) (x.texts j g) (downs g (w h j)) (ups g (w j h))) nobody
-        go true e = λ i. linked false false (at_station h g r x.rows j g (remote_not n h j e) i) (at_station h g t x.texts j g (remote_not n h j e) i) (downs g (w h j)) (ups g (w j h))
-        go false e = refl
+    there j = grind (arith, nat_tests)
 
 -- the page g where a station s away has a new row and text, and new lists
 pub away_page : (n h s g : ℕ) (b : Text) (x : State) (r : Notes) (t : Text) (w : Lists) (d : List Down) (u : List Up) → remote n h s ≡ true
@@ -80,24 +71,13 @@ away_page n h s g b x r t w d u aw is-d is-u others =
     home_text = at_station s g t x.texts h g (turned s h (remote_not n h s aw))
 
     here : new s ≡ linked false false r t d u
-    here = ap (λ c. cond c (linked false false (at s g r x.rows s g) (at s g t x.texts s g) (downs g (w h s)) (ups g (w s h))) nobody) aw
-        ∙ (λ i. linked false false (at_here s g r x.rows i) (at_here s g t x.texts i) (is-d i) (is-u i))
+    here = grind (arith, nat_tests, aw, is-d, is-u)
 
     same : (j : ℕ) → eqb j s ≡ false → new j ≡ old j
-    same j e = go (remote n h j) refl
-      where
-        go : (c : Bool) → remote n h j ≡ c → cond c (linked false false (at s g r x.rows j g) (at s g t x.texts j g) (downs g (w h j)) (ups g (w j h))) nobody
-            ≡ cond c (linked false false (x.rows j g) (x.texts j g) (downs g (x.lists h j)) (ups g (x.lists j h))) nobody
-        go true q = λ i. linked false false (at_station s g r x.rows j g e i) (at_station s g t x.texts j g e i) ((others j e q).0 i) ((others j e q).1 i)
-        go false q = refl
+    same j e = grind (arith, nat_tests, e, others j e)
 
     there : (j : ℕ) → noted hs a new j ≡ placed (noted hs a old) s (linked (flag s hs) (flag s a) r t d u) j
-    there j = go (eqb j s) refl
-      where
-        go : (c : Bool) → eqb j s ≡ c → noted hs a new j ≡ cond c (linked (flag s hs) (flag s a) r t d u) (noted hs a old j)
-        go true e = subst (λ i. noted hs a new i ≡ linked (flag s hs) (flag s a) r t d u) (sym (eqb-true j s e))
-            (ap (λ (l : Link). link (flag s hs) (flag s a) l.copied l.changed l.recall l.standing l.text l.down l.up) here)
-        go false e = ap (λ (l : Link). link (flag j hs) (flag j a) l.copied l.changed l.recall l.standing l.text l.down l.up) (same j e)
+    there j = grind (arith, nat_tests, here, same j)
 
 -- The invariant of a house, and what a step at page g leaves.
 module _ (n p : ℕ) (home : ℕ → ℕ) where
@@ -121,8 +101,8 @@ module _ (n p : ℕ) (home : ℕ → ℕ) where
   moved s g r t w book page x i books here small len same_len same clean = record {
     sane = record {
       inv = λ k l. by_page k l (eqb k g) refl;
-      small = λ k l. small_at k l (eqb k g) refl;
-      long = λ j k l. long_at j k l (eqb j s) (eqb k g) refl refl;
+      small = small_at;
+      long = long_at;
       clean = clean;
     };
     others = others;
@@ -138,12 +118,8 @@ module _ (n p : ℕ) (home : ℕ → ℕ) where
       by_page k l true e = subst (λ z. Inv n (home z) (page_of n (home z) (page z) y z)) (sym (eqb-true k g e)) here
       by_page k l false e = subst (Inv n (home k)) (sym (others k e)) (i.inv k l)
 
-      small_at : (k : ℕ) → k < p → (c : Bool) → eqb k g ≡ c → ((y.rows (home k) k).home.holders < 256) × ((y.rows (home k) k).home.awaited < 256)
-      small_at k l true e = subst (λ z. ((y.rows (home z) z).home.holders < 256) × ((y.rows (home z) z).home.awaited < 256)) (sym (eqb-true k g e)) small
-      small_at k l false e = subst (λ (z : Notes). (z.home.holders < 256) × (z.home.awaited < 256)) (sym (at_page s g r x.rows (home k) k e)) (i.small k l)
+      small_at : (k : ℕ) → k < p → ((y.rows (home k) k).home.holders < 256) × ((y.rows (home k) k).home.awaited < 256)
+      small_at k l = grind (arith, nat_tests, small, i.small k l)
 
-      long_at : (j k : ℕ) → k < p → (c d : Bool) → eqb j s ≡ c → eqb k g ≡ d → length (cond (c && d) t (x.texts j k)) ≡ length (page k)
-      long_at j k l true true e f = len ∙ ap (λ z. length (page z)) (sym (eqb-true k g f))
-      long_at j k l true false e f = i.long j k l ∙ ap length (sym (books k f))
-      long_at j k l false true e f = i.long j k l ∙ ap (λ z. length (book z)) (eqb-true k g f) ∙ sym same_len ∙ ap (λ z. length (page z)) (sym (eqb-true k g f))
-      long_at j k l false false e f = i.long j k l ∙ ap length (sym (books k f))
+      long_at : (j k : ℕ) → k < p → length (y.texts j k) ≡ length (page k)
+      long_at j k l = grind (arith, nat_tests, len, same_len, i.long j k l, books k)

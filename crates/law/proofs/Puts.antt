@@ -1,23 +1,22 @@
 -- Putting bytes into a page, accepted or refused, keeps the invariant of a house, with the book after it.
 use Rattle.std.proofs.Common.{◌≡◌, ℕ, ◌+◌, ◌<◌, ◌≤◌, Bool, true, false, cond, ◌&&◌, eqb, ltb, leb, List, [], length, Result, sym, refl, ap, ◌∙◌, subst, arith, length-append, length-drop, length-take}
-use Rattle.std.proofs.lemmas.Bool.{ltb-true, leb-true, eqb-true, and_parts}
-use Rattle.station.specs.declared.refusal.Refusal.{Refusal}
+use Rattle.std.proofs.lemmas.Bool.{ltb-true, leb-true, eqb-true, and_parts, cond_both}
+use Rattle.line.specs.declared.refusal.Refusal.{Refusal}
 use Rattle.notes.specs.Notes.{Notes, notes, is_writing}
 use Rattle.steps.specs.Steps.{laid}
 use Rattle.steps.specs.Steps.{step, put_away}
 use Rattle.station.specs.Calls.{putting}
 use Rattle.law.specs.State.{State, state, put, at, Outcome, left, written, does, noted}
 use Rattle.law.proofs.Model.{Text, Link, World, world, remote, placed, written_link}
-use Rattle.law.proofs.Facts.{clean, open_holds}
+use Rattle.law.proofs.Facts.{clean, open_holds, writes_open}
 use Rattle.law.proofs.Desks.{eqb_same, Inv}
-use Rattle.law.proofs.Serves.{writes_open}
 use Rattle.law.proofs.Moves.{home_puts, puts}
 use Rattle.law.proofs.Views.{downs, ups, linked, links, view, page_of, holds, awaits}
 use Rattle.law.proofs.Lines.{turned, same_line}
 use Rattle.law.proofs.Homes.{remote_not}
 use Rattle.law.proofs.Pages.{at_here, at_station, home_page, away_page, Sane, moved}
 use Rattle.law.proofs.Steps.{at_link}
-use Rattle.law.proofs.Calls.{tests_two, remote_from, refused_keeps}
+use Rattle.law.proofs.Calls.{remote_from, refused_keeps}
 
 laid_length : (i : ℕ) (xs t : Text) → i + length xs ≤ length t → length (laid i xs t) ≡ length t
 laid_length i xs t l = simp (length-append, length-take, length-drop) (omega arith)
@@ -59,7 +58,7 @@ module _ (n p : ℕ) (home : ℕ → ℕ) (g k : ℕ) (xs : Text) (book : ℕ �
       v = i.inv g l
 
       is_book : x.texts (home g) g ≡ book g
-      is_book = v.pre.fresh (λ j. clean (v.pre.links j) (v.pre.home_open (writes_open (x.rows (home g) g).standing wr)))
+      is_book = v.pre.fresh (λ j. clean (v.pre.links j) (v.pre.home_open (writes_open _ wr)))
 
   put_away_lem : (s : ℕ) → remote n (home g) s ≡ true → is_writing (x.rows s g).standing ≡ true → k + length xs ≤ length (x.texts s g)
       → Sane n p home page (state (at s g (notes (x.rows s g).copy true (x.rows s g).recall (x.rows s g).standing (x.rows s g).home) x.rows) (at s g (laid k xs (x.texts s g)) x.texts) x.lists)
@@ -89,7 +88,7 @@ module _ (n p : ℕ) (home : ℕ → ℕ) (g k : ℕ) (xs : Text) (book : ℕ �
       standing = ap (λ (y : Link). is_writing y.standing) is_link ∙ wr
 
       is_book : x.texts s g ≡ book g
-      is_book = sym (ap (λ (y : Link). y.text) is_link) ∙ (open_holds (v.pre.links s) (writes_open ((page_of n (home g) (book g) x g).at s).standing standing)).1
+      is_book = sym (ap (λ (y : Link). y.text) is_link) ∙ (open_holds (v.pre.links s) (writes_open _ standing)).1
 
 pub put_keeps : (room n p : ℕ) (home : ℕ → ℕ) (s g k : ℕ) (xs : Text) (book : ℕ → Text) (x : State) → Sane n p home book x
     → Sane n p home (noted (put s g k xs) (does room n p home (put s g k xs) x).0 book) (does room n p home (put s g k xs) x).1
@@ -97,6 +96,9 @@ put_keeps room n p home s g k xs book x i = go (ltb s n) (ltb g p) refl refl
   where
     Good : Outcome → Type 0
     Good o = Sane n p home (noted (put s g k xs) o.0 book) o.1
+
+    put_well : Result (Unit {0}) Refusal × Notes × List ℕ → Type 0
+    put_well o = Good (left s g (written o x.lists) x)
 
     here : ltb s n ≡ true → (l : g < p) → is_writing (x.rows s g).standing ≡ true → k + length xs ≤ length (x.texts s g) → (c : Bool) → eqb s (home g) ≡ c
         → Sane n p home (page n p home g k xs book x l i)
@@ -108,8 +110,10 @@ put_keeps room n p home s g k xs book x i = go (ltb s n) (ltb g p) refl refl
     here ls l wr f false e = put_away_lem n p home g k xs book x l i s (remote_from n (home g) s e ls) wr f
 
     go : (c d : Bool) → ltb s n ≡ c → ltb g p ≡ d → Good (cond (c && d) (left s g (written (putting s (home g) g k xs (x.rows s g) (x.texts s g)) x.lists) x) (false, x))
-    go true true e f = tests_two (λ (o : Result (Unit {0}) Refusal × Notes × List ℕ). Good (left s g (written o x.lists) x)) (is_writing (x.rows s g).standing) (ltb 0 (length xs) && leb (k + length xs) (length (x.texts s g))) _ _ _
-        (refused_keeps n p home s g book x i) (refused_keeps n p home s g book x i)
-        (λ wr q. here e (ltb-true g p f) wr (leb-true (k + length xs) (length (x.texts s g)) (and_parts (ltb 0 (length xs)) (leb (k + length xs) (length (x.texts s g))) q).1) (eqb s (home g)) refl)
+    go true true e f = cond_both (is_writing (x.rows s g).standing) _ _ put_well
+        (λ wr. cond_both (ltb 0 (length xs) && leb (k + length xs) (length (x.texts s g))) _ _ put_well
+        (λ q. here e (ltb-true g p f) wr (leb-true (k + length xs) (length (x.texts s g)) (and_parts (ltb 0 (length xs)) (leb (k + length xs) (length (x.texts s g))) q).1) (eqb s (home g)) refl)
+        (λ _. refused_keeps n p home s g book x i))
+        (λ _. refused_keeps n p home s g book x i)
     go true false e f = i
     go false d e f = i

@@ -1,7 +1,10 @@
 -- Serving with sets, a queue and messages is serving the page.
-use Rattle.std.proofs.Common.{◌≡◌, ℕ, zero, suc, ◌<◌, Bool, true, false, cond, not, ◌&&◌, eqb, ltb, List, [], ◌∷◌, ◌++◌, map, sym, refl, ap, ◌∙◌, subst, arith}
+use Rattle.std.proofs.Common.{◌≡◌, ℕ, zero, suc, ◌<◌, Bool, true, false, cond, ◌&&◌, eqb, ltb, List, [], ◌∷◌, ◌++◌, map, sym, refl, ap, ◌∙◌, arith, ◌≤◌, subst}
 use mathlib.Core.Path.{fun_ext}
-use Rattle.std.proofs.lemmas.Bool.{ltb-true, ltb-false, eqb-true, eqb-false, lt-ltb, le-ltb, eq-eqb, and_right}
+use Rattle.std.proofs.lemmas.List.{map-append}
+use Rattle.std.proofs.lemmas.Bool.Decides.{nat_tests}
+use Rattle.std.proofs.lemmas.Bool.{eqb-true, le-ltb, lt-ltb, cond_both}
+use Rattle.delivery.specs.Deliveries.{from_home}
 use Rattle.line.specs.declared.kind.Kind.TheVariants.{Invalidate}
 use Rattle.line.specs.Messages.{Msg, msg}
 use Rattle.notes.specs.declared.row.Access.{Access}
@@ -9,18 +12,15 @@ use Rattle.notes.specs.declared.row.Access.TheVariants.{Read, Write}
 use Rattle.notes.specs.declared.row.Standing.{Standing}
 use Rattle.notes.specs.declared.row.Standing.TheVariants.{Open}
 use Rattle.notes.specs.declared.row.Mode.{Mode}
-use Rattle.notes.specs.declared.row.Mode.TheVariants.{Own, Shared as Readers, Away}
 use Rattle.notes.specs.declared.queue.Entry.{Entry}
 use Rattle.notes.specs.Sets.{isin, left as without, members_below}
-use Rattle.notes.specs.Notes.{HomeNotes, home_notes, is_open, is_writing}
+use Rattle.notes.specs.Notes.{HomeNotes, home_notes}
 use Rattle.steps.specs.Serving.{mode_for}
 use Rattle.notes.specs.declared.set.StationSet.{StationSet}
 use Rattle.steps.specs.declared.serve.Verdict.{Verdict}
 use Rattle.steps.specs.declared.serve.Verdict.TheVariants.{Grant, Recall, Wait}
 use Rattle.steps.specs.Serving.{set, verdict, holders_for, Served, served, after, by, grant, recalls, serving, served_by}
-use Rattle.law.proofs.Model.{Text, Down, invalidate, Link, link, Place, mine, theirs, World, world, remote, placed, right, granted_link, recalled_link, other, in_way, none, recalling, Turn, gives, fetches, stays, judge_read, judge_write, wish, judge, granting, with_queue, fetching, pick, served_world, serve_world}
-use Rattle.law.proofs.Phases.{never, never'}
-use Rattle.law.proofs.Desks.{placed_same, placed_other}
+use Rattle.law.proofs.Model.{Text, Down, invalidate, Link, Place, mine, theirs, World, world, remote, placed, right, granted_link, in_way, none, recalling, Turn, gives, fetches, stays, judge_read, judge_write, wish, judge, granting, with_queue, fetching, pick, served_world, serve_world}
 use Rattle.law.proofs.Flags.{flag, in_range, flag_join, flag_leave, flag_only, flag_zero, joined_small, without_small, only_small, scan_empty}
 use Rattle.law.proofs.Views.{place, places, noted, view, add_downs, post_all, Sound}
 
@@ -39,23 +39,7 @@ as_verdict fetches w = Recall (set w)
 as_verdict stays w = Wait
 
 pub verdict_is : (v : Access) (s : ℕ) (m : Mode) (hs : ℕ) (st : Standing) → verdict v s m hs st ≡ as_verdict (turn v m hs st s) (in_its_way v hs s)
-verdict_is Read s Own hs st = go (is_writing st)
-  where
-    go : (c : Bool) → cond c Wait Grant ≡ as_verdict (cond c stays gives) hs
-    go true = refl
-    go false = refl
-verdict_is Read s Readers hs st = go (is_writing st)
-  where
-    go : (c : Bool) → cond c Wait Grant ≡ as_verdict (cond c stays gives) hs
-    go true = refl
-    go false = refl
-verdict_is Read s Away hs st = refl
-verdict_is Write s m hs st = go (eqb (without hs s) 0) (is_open st)
-  where
-    go : (c d : Bool) → cond c (cond d Wait Grant) (Recall (set (without hs s))) ≡ as_verdict (cond c (cond d stays gives) fetches) (without hs s)
-    go true true = refl
-    go true false = refl
-    go false d = refl
+verdict_is v s m hs st = grind arith
 
 abbrev pub add_one : Down → Link → Link
 add_one k l = add_downs (k ∷ []) l
@@ -79,13 +63,6 @@ module _ (h g : ℕ) where
   abbrev called : ℕ → ℕ → (ℕ → Link) → ℕ → Link
   called m k f j = cond (ltb j k && isin j m) (add_one invalidate (f j)) (f j)
 
-  later : (j k : ℕ) → (j ≡ k → ⊥) → ltb j k ≡ ltb j (suc k)
-  later j k ne = by (ltb j k) refl
-    where
-      by : (c : Bool) → ltb j k ≡ c → c ≡ ltb j (suc k)
-      by true z = let a = ltb-true j k z in sym (lt-ltb j (suc k) (omega (arith, a)))
-      by false z = let a = ltb-false j k z in sym (le-ltb j (suc k) (omega (arith, a, ne)))
-
   calls_are : (m k : ℕ) (f : ℕ → Link) (j : ℕ) → post_all (map call (members_below k m)) f j ≡ called m k f j
   unfolding members_below
   calls_are m zero f j = sym (ap (λ c. cond (c && isin j m) (add_one invalidate (f j)) (f j)) (le-ltb j 0 (omega arith)))
@@ -97,21 +74,7 @@ module _ (h g : ℕ) where
 
       go : (c : Bool) → isin k m ≡ c → (d : Bool) → eqb j k ≡ d → ((i : ℕ) → was i ≡ called m k f i)
           → post_all (map call (cond c (k ∷ []) [])) was j ≡ called m (suc k) f j
-      go true e true x ih =
-          let q : j ≡ k = eqb-true j k x in
-          let off : ltb k k ≡ false = le-ltb k k (omega arith) in
-          let on : ltb k (suc k) ≡ true = lt-ltb k (suc k) (omega arith) in
-          subst (λ i. placed was k (add_one invalidate (was k)) i ≡ called m (suc k) f i) (sym q)
-          (placed_same was k _ ∙ ap (add_one invalidate) (ih k ∙ ap (λ c. cond (c && isin k m) (add_one invalidate (f k)) (f k)) off)
-          ∙ sym (ap (λ c. cond (c && isin k m) (add_one invalidate (f k)) (f k)) on ∙ ap (λ c. cond c (add_one invalidate (f k)) (f k)) e))
-      go true e false x ih =
-          let ne = eqb-false j k x in
-          placed_other was k _ j x ∙ ih j ∙ ap (λ c. cond (c && isin j m) (add_one invalidate (f j)) (f j)) (later j k ne)
-      go false e true x ih =
-          let q : j ≡ k = eqb-true j k x in
-          subst (λ i. was i ≡ called m (suc k) f i) (sym q)
-          (ih k ∙ ap (λ c. cond c (add_one invalidate (f k)) (f k)) (and_right (ltb k k) (isin k m) e ∙ sym (and_right (ltb k (suc k)) (isin k m) e)))
-      go false e false x ih = let ne = eqb-false j k x in ih j ∙ ap (λ c. cond (c && isin j m) (add_one invalidate (f j)) (f j)) (later j k ne)
+      go c e d x ih = grind (arith, nat_tests, ih, e, x)
 
 recalls_are : (h g : ℕ) (t : Text) (m : ℕ) (f : ℕ → Link) (j : ℕ) → post_all (recalls h g m) f j ≡ cond (flag j m) (add_one invalidate (f j)) (f j)
 recalls_are h g t m f j = calls_are h g m 8 f j
@@ -124,59 +87,17 @@ seen_by h g t b f r = view h t b r.standing r.home (post_all r.posts f)
 abbrev seen : Text → Text → Mode → Standing → ℕ → ℕ → List Place → (ℕ → Link) → World
 seen t b m g hs a z f = world m g t b z (noted hs a f)
 
-away_of : (n h m j : ℕ) → ((i : ℕ) → flag i m ≡ true → remote n h i ≡ true) → eqb j h ≡ true → flag j m ≡ false
-away_of n h m j r e = go (flag j m) refl
-  where
-    out : remote n h j ≡ false
-    out = rw e
-
-    go : (c : Bool) → flag j m ≡ c → c ≡ false
-    go true x = never' (sym (r j x) ∙ out)
-    go false x = refl
-
 -- who is in the way of the first entry
 way_is : (n h hs : ℕ) (a : ℕ) (f : ℕ → Link) (e : Entry) → e.station < 8 → ((i : ℕ) → flag i hs ≡ true → remote n h i ≡ true) → (v : Access) → e.access ≡ v
     → (j : ℕ) → in_way (place h e) (noted hs a f) j ≡ flag j (in_its_way v hs e.station)
-way_is n h hs a f e l r v q j = go (eqb e.station h) refl v q
-  where
-    and_true : (c : Bool) → (c && true) ≡ c
-    and_true true = refl
-    and_true false = refl
+way_is n h hs a f e l r v q j = grind (arith, nat_tests, flag_leave j e.station hs l, r j)
 
-    swap : (c d : Bool) → (c && not d) ≡ cond d false c
-    swap true true = refl
-    swap true false = refl
-    swap false true = refl
-    swap false false = refl
-
-    home_not : (c : Bool) → eqb j e.station ≡ c → eqb e.station h ≡ true → flag j hs ≡ cond c false (flag j hs)
-    home_not true x y = away_of n h hs j r (eq-eqb j h (eqb-true j e.station x ∙ eqb-true e.station h y))
-    home_not false x y = refl
-
-    go : (k : Bool) → eqb e.station h ≡ k → (v : Access) → e.access ≡ v → (flag j hs && other (cond k (mine e.access) (theirs e.station e.access)) j) ≡ flag j (in_its_way v hs e.station)
-    go true y Read x = and_true (flag j hs)
-    go true y Write x = and_true (flag j hs) ∙ home_not (eqb j e.station) refl y ∙ sym (flag_leave j e.station hs l)
-    go false y Read x = ap (λ u. flag j hs && other (theirs e.station u) j) x ∙ and_true (flag j hs)
-    go false y Write x = ap (λ u. flag j hs && other (theirs e.station u) j) x ∙ swap (flag j hs) (eqb j e.station) ∙ sym (flag_leave j e.station hs l)
-
-wish_is : (h : ℕ) (e : Entry) → wish (place h e) ≡ e.access
-wish_is h e = go (eqb e.station h)
-  where
-    go : (k : Bool) → wish (cond k (mine e.access) (theirs e.station e.access)) ≡ e.access
-    go true = refl
-    go false = refl
-
-in_its_way_held : (v : Access) (hs s j : ℕ) → s < 8 → flag j (in_its_way v hs s) ≡ true → flag j hs ≡ true
-in_its_way_held Read hs s j l e = e
-in_its_way_held Write hs s j l e = go (eqb j s) (sym (flag_leave j s hs l) ∙ e)
-  where
-    go : (c : Bool) → cond c false (flag j hs) ≡ true → flag j hs ≡ true
-    go true x = never x
-    go false x = x
+pub in_its_way_held : (v : Access) (hs s j : ℕ) → s < 8 → flag j (in_its_way v hs s) ≡ true → flag j hs ≡ true
+in_its_way_held v hs s j l e = grind (arith, flag_leave j s hs l)
 
 judge_is : (n h : ℕ) (t b : Text) (m : Mode) (g : Standing) (hs a : ℕ) (z : List Place) (f : ℕ → Link) (e : Entry) → e.station < 8 → hs < 256
     → ((i : ℕ) → flag i hs ≡ true → remote n h i ≡ true) → judge (wish (place h e)) n (place h e) (seen t b m g hs a z f) ≡ turn e.access m hs g e.station
-judge_is n h t b m g hs a z f e l small r = ap (λ v. judge v n (place h e) (seen t b m g hs a z f)) (wish_is h e) ∙ go e.access refl
+judge_is n h t b m g hs a z f e l small r = ap (λ v. judge v n (place h e) (seen t b m g hs a z f)) (grind arith) ∙ go e.access refl
   where
     go : (v : Access) → e.access ≡ v → judge v n (place h e) (seen t b m g hs a z f) ≡ turn v m hs g e.station
     go Read x = refl
@@ -188,72 +109,63 @@ judge_is n h t b m g hs a z f e l small r = ap (λ v. judge v n (place h e) (see
 fetch_is : (n h g : ℕ) (u : Text) (hs a : ℕ) (f : ℕ → Link) (e : Entry) → e.station < 8 → a ≡ 0 → ((i : ℕ) → flag i hs ≡ true → remote n h i ≡ true)
     → (j : ℕ) → recalling (place h e) (noted hs a f) j ≡ noted hs (in_its_way e.access hs e.station) (post_all (recalls h g (in_its_way e.access hs e.station)) f) j
 fetch_is n h g u hs a f e l none_yet r j =
-    ap (λ c. cond c (recalled_link (noted hs a f j)) (noted hs a f j)) (way_is n h hs a f e l r e.access refl j)
-    ∙ by (flag j way) refl
-    ∙ ap (λ (k : Link). link (flag j hs) (flag j way) k.copied k.changed k.recall k.standing k.text k.down k.up) (sym (recalls_are h g u way f j))
-  where
-    way : ℕ
-    way = in_its_way e.access hs e.station
-
-    by : (c : Bool) → flag j way ≡ c
-        → cond c (recalled_link (noted hs a f j)) (noted hs a f j)
-        ≡ link (flag j hs) c (cond c (add_one invalidate (f j)) (f j)).copied (cond c (add_one invalidate (f j)) (f j)).changed (cond c (add_one invalidate (f j)) (f j)).recall (cond c (add_one invalidate (f j)) (f j)).standing (cond c (add_one invalidate (f j)) (f j)).text (cond c (add_one invalidate (f j)) (f j)).down (cond c (add_one invalidate (f j)) (f j)).up
-    by true x = refl
-    by false x = ap (λ c. link (flag j hs) c (f j).copied (f j).changed (f j).recall (f j).standing (f j).text (f j).down (f j).up) (ap (flag j) none_yet ∙ flag_zero j)
+    grind (arith, way_is n h hs a f e l r e.access refl j, recalls_are h g u (in_its_way e.access hs e.station) f j, none_yet, flag_zero j)
 
 -- a grant to a station away
-write_clear : (c : Bool) (g : Standing) → judge_write c g ≡ gives → c ≡ true
-write_clear c g e = grind arith
-
-held_after : (v : Access) (hs s j : ℕ) → s < 8 → eqb j s ≡ true → flag j (holders_for v hs s) ≡ true
-held_after Read hs s j l e = flag_join j s hs l ∙ ap (λ c. cond c true (flag j hs)) e
-held_after Write hs s j l e = flag_only j s l ∙ e
-
 others_after : (v : Access) (m : Mode) (g : Standing) (hs s j : ℕ) → s < 8 → turn v m hs g s ≡ gives → eqb j s ≡ false → flag j hs ≡ flag j (holders_for v hs s)
-others_after Read m g hs s j l x e = sym (flag_join j s hs l ∙ ap (λ c. cond c true (flag j hs)) e)
-others_after Write m g hs s j l x e = (ap (λ c. cond c false (flag j hs)) (sym e) ∙ sym (flag_leave j s hs l) ∙ ap (flag j) (eqb-true (without hs s) 0 (write_clear (eqb (without hs s) 0) g x)) ∙ flag_zero j)
-    ∙ sym (flag_only j s l ∙ e)
+others_after v m g hs s j l x e = grind (arith, nat_tests, flag_join j s hs l, flag_only j s l, flag_leave j s hs l, flag_zero j)
 
 grant_is : (t : Text) (v : Access) (m : Mode) (g : Standing) (hs a s : ℕ) (f : ℕ → Link) → s < 8 → turn v m hs g s ≡ gives
     → (j : ℕ) → placed (noted hs a f) s (granted_link v t (noted hs a f s)) j ≡ noted (holders_for v hs s) a (placed f s (add_one (right v (isin s hs) t) (f s))) j
-grant_is t v m g hs a s f l x j = go (eqb j s) refl
-  where
-    new : Link
-    new = add_one (right v (isin s hs) t) (f s)
-
-    go : (c : Bool) → eqb j s ≡ c → cond c (granted_link v t (noted hs a f s)) (noted hs a f j)
-        ≡ link (flag j (holders_for v hs s)) (flag j a) (cond c new (f j)).copied (cond c new (f j)).changed (cond c new (f j)).recall (cond c new (f j)).standing (cond c new (f j)).text (cond c new (f j)).down (cond c new (f j)).up
-    go true e =
-        let p : true ≡ flag j (holders_for v hs s) = sym (held_after v hs s j l e) in
-        let q : flag s a ≡ flag j a = ap (λ k. flag k a) (sym (eqb-true j s e)) in
-        let r : flag s hs ≡ isin s hs = in_range s hs l in
-        λ i. link (p i) (q i) (f s).copied (f s).changed (f s).recall (f s).standing (f s).text ((f s).down ++ (right v (r i) t ∷ [])) (f s).up
-    go false e = ap (λ c. link c (flag j a) (f j).copied (f j).changed (f j).recall (f j).standing (f j).text (f j).down (f j).up) (others_after v m g hs s j l x e)
+grant_is t v m g hs a s f l x j = grind (arith, nat_tests, flag_join j s hs l, flag_only j s l, others_after v m g hs s j l x, in_range s hs l)
 
 pub small_after : (v : Access) (hs s : ℕ) → hs < 256 → s < 8 → holders_for v hs s < 256
-small_after Read hs s a b = joined_small hs s a b
-small_after Write hs s a b = only_small s b
+small_after v hs s a b = grind (arith, joined_small hs s a b, only_small s b)
 
 pub away_after : (n h : ℕ) (v : Access) (m : Mode) (g : Standing) (hs s : ℕ) → s < 8 → s < n → eqb s h ≡ false → turn v m hs g s ≡ gives
     → ((i : ℕ) → flag i hs ≡ true → remote n h i ≡ true) → (j : ℕ) → flag j (holders_for v hs s) ≡ true → remote n h j ≡ true
-away_after n h v m g hs s l ln eh x r j y = go (eqb j s) refl
-  where
-    there : remote n h s ≡ true
-    there = rw eh (lt-ltb s n ln)
+away_after n h v m g hs s l ln eh x r j y = grind (arith, nat_tests, others_after v m g hs s j l x, r j)
 
-    go : (c : Bool) → eqb j s ≡ c → remote n h j ≡ true
-    go true e = subst (λ i. remote n h i ≡ true) (sym (eqb-true j s e)) there
-    go false e = r j (others_after v m g hs s j l x e ∙ y)
+-- messages from the home h about page g to stations away
+abbrev pub Outward : (n h g : ℕ) → List Msg → Type 0
+Outward n h g [] = Unit {0}
+Outward n h g (m ∷ ms) = (m.sender ≡ h) × (m.page ≡ g) × (remote n h m.receiver ≡ true) × (from_home m.kind ≡ true) × Outward n h g ms
+
+outward_append : (n h g : ℕ) (xs ys : List Msg) → Outward n h g xs → Outward n h g ys → Outward n h g (xs ++ ys)
+outward_append n h g [] ys a q = q
+outward_append n h g (x ∷ xs) ys a q = (a.0, a.1, a.2, a.3, outward_append n h g xs ys a.4 q)
+
+-- the stations of a set that are called
+recalls_out : (n h g m k : ℕ) → k ≤ 8 → ((j : ℕ) → flag j m ≡ true → remote n h j ≡ true) → Outward n h g (map (call h g) (members_below k m))
+unfolding members_below
+recalls_out n h g m zero l f = tt
+recalls_out n h g m (suc k) l f = rw (map-append (call h g) (members_below k m) (cond (isin k m) (k ∷ []) []))
+    (outward_append n h g _ (map (call h g) (cond (isin k m) (k ∷ []) [])) (recalls_out n h g m k (omega (arith, l)) f)
+    (cond_both (isin k m) (k ∷ []) [] (λ ks. Outward n h g (map (call h g) ks)) (λ e. (refl, refl, f k (in_range k m (omega (arith, l)) ∙ e), refl, tt)) (λ _. tt)))
+
+grant_out : (n h g : ℕ) (t : Text) (v : Access) (s : ℕ) (c : Bool) (ms : List Msg) → remote n h s ≡ true → Outward n h g ms → Outward n h g (grant h g t v s c ∷ ms)
+grant_out n h g t Read s c ms r o = (refl, refl, r, refl, o)
+grant_out n h g t Write s true ms r o = (refl, refl, r, refl, o)
+grant_out n h g t Write s false ms r o = (refl, refl, r, refl, o)
+
+-- what serving leaves: the page after serving, small sets, and messages to stations away
+pub record Serving (n h g : ℕ) (t b : Text) (f : ℕ → Link) (w : World) (r : Served) : Type 0 where
+  pub same : w ≡ seen_by h g t b f r
+  pub holders : r.home.holders < 256
+  pub awaited : r.home.awaited < 256
+  pub out : Outward n h g r.posts
 
 served_is : (n h g : ℕ) (t b : Text) (q : List Entry) (st : Standing) (m : Mode) (hs a : ℕ) (z : List Place) (f : ℕ → Link) → Sound n h (home_notes m hs a q)
-    → served_world n (seen t b m st hs a z f) (places h q) ≡ seen_by h g t b f (serving h g t st m hs a q)
+    → Serving n h g t b f (served_world n (seen t b m st hs a z f) (places h q)) (serving h g t st m hs a q)
 unfolding serving
-served_is n h g t b [] st m hs a z f o = refl
+served_is n h g t b [] st m hs a z f o = record { same = refl; holders = o.holders_small; awaited = o.awaited_small; out = tt }
 served_is n h g t b (e ∷ q) st m hs a z f o =
-    ap (λ c. cond c (pick (judge (wish (place h e)) n (place h e) w) A B C) C) (scan_empty n h a o.awaited_small o.awaited_away)
-    ∙ ap (λ vd. cond (eqb a 0) (pick vd A B C) C) (judge_is n h t b m st hs a z f e l o.holders_small o.holders_away)
-    ∙ by_calm (eqb a 0) refl (served_is n h g t b q)
-    ∙ sym (ap (λ (d : Verdict). seen_by h g t b f (cond (eqb a 0) (by d (cond (eqb e.station h) X Y) F S) S)) (verdict_is e.access e.station m hs st))
+    subst (λ (x : World). Serving n h g t b f x (serving h g t st m hs a (e ∷ q)))
+    (sym (ap (λ c. cond c (pick (judge (wish (place h e)) n (place h e) w) (served_world n (granting (place h e) w) (places h q)) B C) C) (scan_empty n h a o.awaited_small o.awaited_away)
+    ∙ ap (λ d. cond (eqb a 0) (pick d (served_world n (granting (place h e) w) (places h q)) B C) C) (judge_is n h t b m st hs a z f e l o.holders_small o.holders_away)))
+    (subst (λ (d : Verdict). Serving n h g t b f (cond (eqb a 0) (pick V (served_world n (granting (place h e) w) (places h q)) B C) C) (cond (eqb a 0) (by d (cond (eqb e.station h) X Y) F S) S))
+    (sym (verdict_is e.access e.station m hs st))
+    (go (eqb a 0) refl V refl (eqb e.station h) refl (served_is n h g t b q)))
   where
     l : e.station < 8
     l = let x = o.below.0 in let y = o.few in omega (arith, x, y)
@@ -261,24 +173,20 @@ served_is n h g t b (e ∷ q) st m hs a z f o =
     w : World
     w = seen t b m st hs a z f
 
-    A : World
-    A = served_world n (granting (place h e) w) (places h q)
-
     B : World
     B = fetching (place h e) (with_queue (places h (e ∷ q)) w)
 
     C : World
     C = with_queue (places h (e ∷ q)) w
 
-    IH : Type 0
-    IH = (st : Standing) (m : Mode) (hs a : ℕ) (z : List Place) (f : ℕ → Link) → Sound n h (home_notes m hs a q)
-        → served_world n (seen t b m st hs a z f) (places h q) ≡ seen_by h g t b f (serving h g t st m hs a q)
-
     X : Served
     X = serving h g t (Open e.access) m hs a q
 
+    Z : Served
+    Z = serving h g t st (mode_for e.access) (holders_for e.access hs e.station) a q
+
     Y : Served
-    Y = after (grant h g t e.access e.station (isin e.station hs)) (serving h g t st (mode_for e.access) (holders_for e.access hs e.station) a q)
+    Y = after (grant h g t e.access e.station (isin e.station hs)) Z
 
     F : StationSet → Served
     F = λ s. served st (home_notes m hs s.bits (e ∷ q)) (recalls h g s.bits)
@@ -292,11 +200,14 @@ served_is n h g t b (e ∷ q) st m hs a z f o =
     way : ℕ
     way = in_its_way e.access hs e.station
 
-    by_home : (k : Bool) → eqb e.station h ≡ k → turn e.access m hs st e.station ≡ gives → IH
-        → served_world n (granting (cond k (mine e.access) (theirs e.station e.access)) w) (places h q) ≡ seen_by h g t b f (cond k X Y)
-    by_home true x v ih = ih (Open e.access) m hs a z f (record { few = o.few; holders_small = o.holders_small; awaited_small = o.awaited_small; holders_away = o.holders_away; awaited_away = o.awaited_away; below = o.below.1 })
-    by_home false x v ih = ap (λ (k : ℕ → Link). served_world n (world (mode_for e.access) st t b z k) (places h q)) (fun_ext (grant_is t e.access m st hs a e.station f l v))
-        ∙ ih st (mode_for e.access) (holders_for e.access hs e.station) a z (placed f e.station (add_one (right e.access (isin e.station hs) t) (f e.station)))
+    go : (c : Bool) → eqb a 0 ≡ c → (d : Turn) → turn e.access m hs st e.station ≡ d → (k : Bool) → eqb e.station h ≡ k
+        → ((st : Standing) (m : Mode) (hs a : ℕ) (z : List Place) (f : ℕ → Link) → Sound n h (home_notes m hs a q)
+        → Serving n h g t b f (served_world n (seen t b m st hs a z f) (places h q)) (serving h g t st m hs a q))
+        → Serving n h g t b f (cond c (pick d (served_world n (granting (cond k (mine e.access) (theirs e.station e.access)) w) (places h q)) B C) C)
+        (cond c (by (as_verdict d way) (cond k X Y) F S) S)
+    go true y gives v true x ih = ih (Open e.access) m hs a z f (record { few = o.few; holders_small = o.holders_small; awaited_small = o.awaited_small; holders_away = o.holders_away; awaited_away = o.awaited_away; below = o.below.1 })
+    go true y gives v false x ih =
+        let r = ih st (mode_for e.access) (holders_for e.access hs e.station) a z (placed f e.station (add_one (right e.access (isin e.station hs) t) (f e.station)))
         (record {
           few = o.few;
           holders_small = small_after e.access hs e.station o.holders_small l;
@@ -304,24 +215,24 @@ served_is n h g t b (e ∷ q) st m hs a z f o =
           holders_away = away_after n h e.access m st hs e.station l o.below.0 x v o.holders_away;
           awaited_away = o.awaited_away;
           below = o.below.1;
-        })
-        ∙ sym (ap (λ (y : ℕ → Link). view h t b r.standing r.home y) (post_grant h g t e.access e.station (isin e.station hs) r.posts f))
-      where
-        r : Served
-        r = serving h g t st (mode_for e.access) (holders_for e.access hs e.station) a q
-
-    by_turn : (d : Turn) → turn e.access m hs st e.station ≡ d → eqb a 0 ≡ true → IH
-        → pick d A B C ≡ seen_by h g t b f (by (as_verdict d way) (cond (eqb e.station h) X Y) F S)
-    by_turn gives v x ih = by_home (eqb e.station h) refl v ih
-    by_turn fetches v x ih = ap (λ (k : ℕ → Link). world m st t b (places h (e ∷ q)) k) (fun_ext (fetch_is n h g t hs a f e l (eqb-true a 0 x) o.holders_away))
-    by_turn stays v x ih = refl
-
-    by_calm : (c : Bool) → eqb a 0 ≡ c → IH
-        → cond c (pick V A B C) C ≡ seen_by h g t b f (cond c (by (as_verdict V way) (cond (eqb e.station h) X Y) F S) S)
-    by_calm true x ih = by_turn V refl x ih
-    by_calm false x ih = refl
+        }) in
+        record {
+          same = ap (λ (k : ℕ → Link). served_world n (world (mode_for e.access) st t b z k) (places h q)) (fun_ext (grant_is t e.access m st hs a e.station f l v))
+              ∙ r.same ∙ sym (ap (view h t b Y.standing Y.home) (post_grant h g t e.access e.station (isin e.station hs) Z.posts f));
+          holders = r.holders;
+          awaited = r.awaited;
+          out = grant_out n h g t e.access e.station (isin e.station hs) Z.posts (rw x (lt-ltb e.station n o.below.0)) r.out;
+        }
+    go true y fetches v k x ih = record {
+      same = ap (λ (k : ℕ → Link). world m st t b (places h (e ∷ q)) k) (fun_ext (fetch_is n h g t hs a f e l (eqb-true a 0 y) o.holders_away));
+      holders = o.holders_small;
+      awaited = grind (arith, without_small hs e.station o.holders_small);
+      out = recalls_out n h g way 8 (omega arith) (λ j y. o.holders_away j (in_its_way_held e.access hs e.station j l y));
+    }
+    go true y stays v k x ih = record { same = refl; holders = o.holders_small; awaited = o.awaited_small; out = tt }
+    go false y d v k x ih = record { same = refl; holders = o.holders_small; awaited = o.awaited_small; out = tt }
 
 -- serving is serving the page
 pub serve_is : (n h g : ℕ) (t b : Text) (st : Standing) (d : HomeNotes) (f : ℕ → Link) → Sound n h d
-    → serve_world n (view h t b st d f) ≡ seen_by h g t b f (served_by h g t st d)
+    → Serving n h g t b f (serve_world n (view h t b st d f)) (served_by h g t st d)
 serve_is n h g t b st d f o = served_is n h g t b d.queue st d.mode d.holders d.awaited (places h d.queue) f o

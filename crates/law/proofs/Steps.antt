@@ -1,18 +1,19 @@
 -- A step of a house: at a page's home, or at a station away.
-use Rattle.std.proofs.Common.{◌≡◌, ℕ, ◌<◌, true, false, cond, ◌&&◌, eqb, ◌++◌, length, sym, refl, ap, ◌∙◌, subst}
+use Rattle.std.proofs.Common.{◌≡◌, ℕ, ◌<◌, true, false, cond, ◌&&◌, eqb, ◌++◌, length, sym, refl, ap, ◌∙◌, subst, Option}
+use Rattle.notes.specs.declared.row.Access.{Access}
 use Rattle.line.specs.Lists.{Lists, sent}
 use Rattle.notes.specs.declared.row.Mode.{Mode}
 use Rattle.notes.specs.Notes.{Notes}
 use Rattle.steps.specs.Steps.{Step}
 use Rattle.steps.specs.Serving.{serve, served_by}
 use Rattle.law.specs.State.{State, state, at}
-use Rattle.law.proofs.Model.{Text, Link, link, Asked, remote, serve_world, local, nobody}
+use Rattle.law.proofs.Model.{Text, Link, link, remote, serve_world, local, nobody}
 use Rattle.law.proofs.Phases.{Phase, Tame}
 use Rattle.law.proofs.Desks.{Inv, keeps_local}
 use Rattle.law.proofs.Views.{downs, ups, linked, links, view, page_of, holds, awaits, Sound}
-use Rattle.law.proofs.Same.{serve_is}
+use Rattle.law.proofs.Same.{Serving, serve_is}
 use Rattle.law.proofs.Lines.{turned, Posts, Same, same_line, same_trans, sent_same, Clean, clean_sent, Inward, ups_in, inward_ups, inward_apart, inward_posts}
-use Rattle.law.proofs.Homes.{outward_posts, Fine, remote_not, serve_fine, posts_are}
+use Rattle.law.proofs.Homes.{outward_posts, remote_not, posts_are}
 use Rattle.law.proofs.Links.{link_after}
 use Rattle.law.proofs.Pages.{at_here, at_station, home_page, away_page, Sane, Moved, moved}
 
@@ -28,8 +29,11 @@ pub serve_page : (n h g : ℕ) (b : Text) (x : State) (r : Notes) (t : Text) (w 
     ≡ serve_world n (view h t b r.standing r.home (links n h g x.rows x.texts w))
 serve_page n h g b x r t w o =
     home_page n h g b x (serve h g t r).notes t (sent (serve h g t r).posts w)
-    ∙ ap (view h t b (serve h g t r).notes.standing (serve h g t r).notes.home) (posts_are n h g x.rows x.texts (serve h g t r).posts w (serve_fine n h g t r.standing r.home o).out)
-    ∙ sym (serve_is n h g t b r.standing r.home (links n h g x.rows x.texts w) o)
+    ∙ ap (view h t b (serve h g t r).notes.standing (serve h g t r).notes.home) (posts_are n h g x.rows x.texts (serve h g t r).posts w s.out)
+    ∙ sym s.same
+  where
+    s : Serving n h g t b (links n h g x.rows x.texts w) (serve_world n (view h t b r.standing r.home (links n h g x.rows x.texts w))) (served_by h g t r.standing r.home)
+    s = serve_is n h g t b r.standing r.home (links n h g x.rows x.texts w) o
 
 -- station s away has made a step, after which the lists before its posts are w
 module _ (n h s g : ℕ) (b : Text) (x : State) (o : Step) (w : Lists) (aw : remote n h s ≡ true) (inward : Inward s h g o.posts) where
@@ -59,8 +63,8 @@ module _ (n p : ℕ) (home : ℕ → ℕ) where
       (λ k e. same_trans k x.lists w (sent (serve (home g) g t r).posts w) (same k e) (sent_same n (home g) k g (serve (home g) g t r).posts w posts (turned k g e)))
       (clean_sent n p home g (serve (home g) g t r).posts w l posts clean)
     where
-      fine : Fine n (home g) g (served_by (home g) g t r.standing r.home)
-      fine = serve_fine n (home g) g t r.standing r.home o
+      fine : Serving n (home g) g t (book g) (links n (home g) g x.rows x.texts w) (serve_world n (view (home g) t (book g) r.standing r.home (links n (home g) g x.rows x.texts w))) (served_by (home g) g t r.standing r.home)
+      fine = serve_is n (home g) g t (book g) r.standing r.home (links n (home g) g x.rows x.texts w) o
 
       posts : Posts n (home g) g (serve (home g) g t r).posts
       posts = outward_posts n (home g) g (serve (home g) g t r).posts fine.out
@@ -88,7 +92,7 @@ module _ (n p : ℕ) (home : ℕ → ℕ) where
       → (f : Link → Link)
       → f (linked (holds x (home g) g s) (awaits x (home g) g s) (x.rows s g) (x.texts s g) (downs g (x.lists (home g) s)) (ups g (x.lists s (home g))))
       ≡ link_after s (home g) g (holds x (home g) g s) (awaits x (home g) g s) (downs g (x.lists (home g) s)) (ups g (x.lists s (home g))) o
-      → ((m : Mode) (q : Asked) (y : Link) → Phase (book g) m q y → Tame (book g) m q y (f y))
+      → ((m : Mode) (q : Option Access) (y : Link) → Phase (book g) m q y → Tame (book g) m q y (f y))
       → o.text ≡ x.texts s g
       → Moved n p home g book x book (state (at s g o.notes x.rows) (at s g o.text x.texts) (sent o.posts x.lists))
   call_moved s g o book x l i aw inward f is_f tames is-text = step_moved s g o x.lists book x l i aw inward refl (λ j e q. (refl, refl))

@@ -1,5 +1,5 @@
 -- The page that rows, texts and lists make.
-use Rattle.std.proofs.Common.{◌≡◌, ℕ, ◌<◌, ◌≤◌, Bool, true, false, cond, eqb, List, [], ◌∷◌, ◌++◌}
+use Rattle.std.proofs.Common.{◌≡◌, ℕ, ◌<◌, ◌≤◌, Bool, true, false, cond, eqb, List, [], ◌∷◌, ◌++◌, map}
 use Rattle.line.specs.declared.kind.Kind.{Kind}
 use Rattle.line.specs.declared.kind.Kind.TheVariants.{SharedCopy, ExclusiveCopy, ModifyGrant, Invalidate, ReadRequest, WriteRequest, Ack, AckWithText, Flush, FlushWithText}
 use Rattle.line.specs.Messages.{Msg}
@@ -18,24 +18,16 @@ as_down SharedCopy t = copy Read t ∷ []
 as_down ExclusiveCopy t = copy Write t ∷ []
 as_down ModifyGrant t = modify ∷ []
 as_down Invalidate t = invalidate ∷ []
-as_down ReadRequest t = []
-as_down WriteRequest t = []
-as_down Ack t = []
-as_down AckWithText t = []
-as_down Flush t = []
-as_down FlushWithText t = []
+as_down _ t = []
 
 abbrev pub as_up : Kind → Text → List Up
-as_up SharedCopy t = []
-as_up ExclusiveCopy t = []
-as_up ModifyGrant t = []
-as_up Invalidate t = []
 as_up ReadRequest t = wants Read ∷ []
 as_up WriteRequest t = wants Write ∷ []
 as_up Ack t = thin false ∷ []
 as_up AckWithText t = full false t ∷ []
 as_up Flush t = thin true ∷ []
 as_up FlushWithText t = full true t ∷ []
+as_up _ t = []
 
 -- the messages of page g in a list
 abbrev pub downs : ℕ → List Msg → List Down
@@ -51,8 +43,7 @@ abbrev pub place : ℕ → Entry → Place
 place h e = cond (eqb e.station h) (mine e.access) (theirs e.station e.access)
 
 abbrev pub places : ℕ → List Entry → List Place
-places h [] = []
-places h (e ∷ q) = place h e ∷ places h q
+places h q = map (place h) q
 
 -- a row and its lists as a link
 abbrev pub linked : Bool → Bool → Notes → Text → List Down → List Up → Link

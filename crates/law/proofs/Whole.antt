@@ -1,17 +1,18 @@
 -- The law of a house.
-use Rattle.std.proofs.Common.{◌≡◌, ℕ, ◌+◌, ◌-◌, ◌<◌, ◌≤◌, Bool, true, false, cond, not, ◌&&◌, eqb, ltb, List, [], ◌∷◌, sym, refl, ap, ◌∙◌, subst, arith}
-use Rattle.std.proofs.lemmas.Bool.{le-leb, eqb-true, lt-ltb}
+use Rattle.std.proofs.Common.{◌≡◌, ℕ, ◌+◌, ◌-◌, ◌<◌, ◌≤◌, Bool, true, false, cond, List, [], ◌∷◌, sym, refl, ap, ◌∙◌, subst, None, arith}
+use Rattle.std.proofs.lemmas.Bool.Decides.{nat_tests}
+use Rattle.std.proofs.lemmas.Bool.{le-leb, cond_both}
 use Rattle.line.specs.Messages.{Msg}
 use Rattle.line.specs.Lists.{sum_to}
-use Rattle.notes.specs.declared.row.CopyKind.TheVariants.{None as NoCopy}
 use Rattle.notes.specs.declared.row.Standing.TheVariants.{Idle}
 use Rattle.notes.specs.declared.row.Mode.TheVariants.{Own}
 use Rattle.notes.specs.Notes.{Notes, blank, is_open, is_writing, is_waiting}
 use Rattle.line.specs.Lists.{total}
 use Rattle.station.specs.Calls.{has_room}
-use Rattle.law.specs.State.{State, start, end, flush, put, deliver, Outcome, delivered, does}
+use Rattle.law.specs.State.{State, start, end, flush, put, deliver, Outcome, does}
 use Rattle.law.specs.Law.{bound, Fit, New, Reached, new, next, Law}
-use Rattle.law.proofs.Model.{Text, Link, link, World, world, nothing, remote, nobody, size_down, size_up, messages, potential, link_sum}
+use Rattle.law.proofs.Sums.{sum_le, sum_zero, sum_lt, sum_bound}
+use Rattle.law.proofs.Model.{Text, Link, link, World, world, remote, nobody, messages, potential, link_sum}
 use Rattle.law.proofs.Phases.{Phase, quiet, never, never'}
 use Rattle.law.proofs.Desks.{Inv}
 use Rattle.law.proofs.Page.{stands_at, text_at, alone_all, fresh_all, waits_all, bounded, enough}
@@ -20,10 +21,10 @@ use Rattle.law.proofs.Views.{downs, ups, linked, view, page_of}
 use Rattle.law.proofs.Lines.{Proper}
 use Rattle.law.proofs.Pages.{Sane}
 use Rattle.law.proofs.Steps.{at_link}
-use Rattle.law.proofs.Calls.{remote_from, start_keeps, end_keeps, flush_keeps}
+use Rattle.law.proofs.Calls.{start_keeps, end_keeps, flush_keeps}
 use Rattle.law.proofs.Puts.{put_keeps}
 use Rattle.law.proofs.Delivers.{delivers}
-use Rattle.law.proofs.Counts.{sum_le, sum_zero, sum_lt, sum_bound, links_sum, count_all}
+use Rattle.law.proofs.Counts.{count_all}
 
 -- the potential of a house
 abbrev pub house_potential : (n p : ℕ) → (ℕ → ℕ) → State → ℕ
@@ -32,7 +33,7 @@ house_potential n p home x = sum_to p (λ g. link_sum n potential (page_of n (ho
 -- a page after set-up
 module _ (n h g : ℕ) (b : Text) (x : State) (rows : (s k : ℕ) → x.rows s k ≡ blank) (text : x.texts h g ≡ b) (lists : (i j : ℕ) → x.lists i j ≡ []) where
   new_link : ℕ → Link
-  new_link j = cond (remote n h j) (link false false NoCopy false false Idle (x.texts j g) [] []) nobody
+  new_link j = cond (remote n h j) (link false false None false false Idle (x.texts j g) [] []) nobody
 
   new_page : World
   new_page = world Own Idle b b [] new_link
@@ -42,27 +43,22 @@ module _ (n h g : ℕ) (b : Text) (x : State) (rows : (s k : ℕ) → x.rows s k
   new_is = (λ z. world Own Idle b b [] (λ j. links_are j (remote n h j) z))
       ∙ sym (λ z. view h (text z) b (rows h g z).standing (rows h g z).home (λ j. cond (remote n h j) (linked false false (rows j g z) (x.texts j g) (downs g (lists h j z)) (ups g (lists j h z))) nobody))
     where
-      links_are : (j : ℕ) (c : Bool) → cond c (link false false NoCopy false false Idle (x.texts j g) [] []) nobody
+      links_are : (j : ℕ) (c : Bool) → cond c (link false false None false false Idle (x.texts j g) [] []) nobody
           ≡ link (flag j 0) (flag j 0) (cond c (linked false false blank (x.texts j g) [] []) nobody).copied (cond c (linked false false blank (x.texts j g) [] []) nobody).changed
           (cond c (linked false false blank (x.texts j g) [] []) nobody).recall (cond c (linked false false blank (x.texts j g) [] []) nobody).standing (cond c (linked false false blank (x.texts j g) [] []) nobody).text
           (cond c (linked false false blank (x.texts j g) [] []) nobody).down (cond c (linked false false blank (x.texts j g) [] []) nobody).up
-      links_are j true = λ z. link (sym (flag_zero j) z) (sym (flag_zero j) z) NoCopy false false Idle (x.texts j g) [] []
-      links_are j false = λ z. link (sym (flag_zero j) z) (sym (flag_zero j) z) NoCopy false false Idle [] [] []
+      links_are j c = grind (arith, flag_zero j)
 
-  quiet_link : (j : ℕ) → Phase b Own nothing (new_link j)
+  quiet_link : (j : ℕ) → Phase b Own None (new_link j)
   unfolding new_link
-  quiet_link j = go (remote n h j)
-    where
-      go : (c : Bool) → Phase b Own nothing (cond c (link false false NoCopy false false Idle (x.texts j g) [] []) nobody)
-      go true = quiet false
-      go false = quiet false
+  quiet_link j = cond_both (remote n h j) _ _ (Phase b Own None) (λ _. quiet false) (λ _. quiet false)
 
   pub new_inv : Inv n h (page_of n h b x g)
   unfolding new_page new_link
   new_inv = subst (Inv n h) new_is (record {
     pre = record {
       links = quiet_link;
-      outside = λ j e. (ap (λ c. cond c (link false false NoCopy false false Idle (x.texts j g) [] []) nobody) e, refl);
+      outside = λ j e. (ap (λ c. cond c (link false false None false false Idle (x.texts j g) [] []) nobody) e, refl);
       distinct = tt;
       own_wish = refl;
       held = never';
@@ -100,11 +96,7 @@ module _ (room n p : ℕ) (home : ℕ → ℕ) (fit : Fit room n p home) where
 
   -- nothing to deliver
   none_there : (a b : ℕ) (x : State) → x.lists a b ≡ [] → does room n p home (deliver a b) x ≡ (false, x)
-  none_there a b x e = ap (λ ms. cond (ltb a n && (ltb b n && not (eqb a b))) (delivered room n p home a b ms x) (false, x)) e ∙ go (ltb a n && (ltb b n && not (eqb a b)))
-    where
-      go : (c : Bool) → ◌≡◌ {A = Outcome} (cond c (false, x) (false, x)) (false, x)
-      go true = refl
-      go false = refl
+  none_there a b x e = grind (arith, e)
 
   deliver_keeps : (a b : ℕ) (book : ℕ → Text) (x : State) → Sane n p home book x → Sane n p home book (does room n p home (deliver a b) x).1
   deliver_keeps a b book x i = go (x.lists a b) refl
@@ -124,26 +116,13 @@ module _ (room n p : ℕ) (home : ℕ → ℕ) (fit : Fit room n p home) where
   -- how a station stands, and its text, in the page and in the house
   module _ (book : ℕ → Text) (x : State) (i : Sane n p home book x) (g : ℕ) (l : g < p) where
     stands_is : (s : ℕ) → s < n → stands_at (home g) (page_of n (home g) (book g) x g) s ≡ (x.rows s g).standing
-    stands_is s ls = go (eqb s (home g)) refl
-      where
-        go : (c : Bool) → eqb s (home g) ≡ c → cond c (x.rows (home g) g).standing ((page_of n (home g) (book g) x g).at s).standing ≡ (x.rows s g).standing
-        go true e = ap (λ k. (x.rows k g).standing) (sym (eqb-true s (home g) e))
-        go false e = ap (λ (k : Link). k.standing) (at_link n (home g) s g (book g) x (remote_from n (home g) s e (lt-ltb s n ls)))
+    stands_is s ls = grind (arith, nat_tests, λ (e : remote n (home g) s ≡ true). ap (λ (k : Link). k.standing) (at_link n (home g) s g (book g) x e))
 
     text_is : (s : ℕ) → s < n → text_at (home g) (page_of n (home g) (book g) x g) s ≡ x.texts s g
-    text_is s ls = go (eqb s (home g)) refl
-      where
-        go : (c : Bool) → eqb s (home g) ≡ c → cond c (x.texts (home g) g) ((page_of n (home g) (book g) x g).at s).text ≡ x.texts s g
-        go true e = ap (λ k. x.texts k g) (sym (eqb-true s (home g) e))
-        go false e = ap (λ (k : Link). k.text) (at_link n (home g) s g (book g) x (remote_from n (home g) s e (lt-ltb s n ls)))
+    text_is s ls = grind (arith, nat_tests, λ (e : remote n (home g) s ≡ true). ap (λ (k : Link). k.text) (at_link n (home g) s g (book g) x e))
 
     no_messages : ((a b : ℕ) → x.lists a b ≡ []) → link_sum n messages (page_of n (home g) (book g) x g).at ≡ 0
-    no_messages e = links_sum n messages (page_of n (home g) (book g) x g).at ∙ sum_zero n (λ k. messages ((page_of n (home g) (book g) x g).at k)) (λ k _. go k (remote n (home g) k))
-      where
-        go : (k : ℕ) (c : Bool) → size_down (cond c (linked false false (x.rows k g) (x.texts k g) (downs g (x.lists (home g) k)) (ups g (x.lists k (home g)))) nobody).down
-            + size_up (cond c (linked false false (x.rows k g) (x.texts k g) (downs g (x.lists (home g) k)) (ups g (x.lists k (home g)))) nobody).up ≡ 0
-        go k true = λ z. size_down (downs g (e (home g) k z)) + size_up (ups g (e k (home g) z))
-        go k false = refl
+    no_messages e = sum_zero n (λ k. messages ((page_of n (home g) (book g) x g).at k)) (λ k _. grind (arith, e (home g) k, e k (home g)))
 
     alone_here : (s k : ℕ) → s < n → k < n → is_writing (x.rows s g).standing ≡ true → is_open (x.rows k g).standing ≡ true → s ≡ k
     alone_here s k ls lk w o = alone_all n (home g) (page_of n (home g) (book g) x g) (i.inv g l) s k (ap is_writing (stands_is s ls) ∙ w) (ap is_open (stands_is k lk) ∙ o)
@@ -169,8 +148,8 @@ module _ (room n p : ℕ) (home : ℕ → ℕ) (fit : Fit room n p home) where
           let q = delivers room n p home fit book x i (has_room_lem book x i) a b m rest e in
           let d = q.1 in
           subst (λ (o : Outcome). house_potential n p home o.1 < house_potential n p home x) (sym d.is)
-          (sum_lt p (λ g. link_sum n potential (page_of n (home g) [] x g).at) (λ g. link_sum n potential (page_of n (home g) [] d.after g).at) m.page q.0
-          (λ k z. ap (λ (w : World). link_sum n potential w.at) (d.moved.others k z)) d.falls)
+          (sum_lt p (λ g. link_sum n potential (page_of n (home g) [] d.after g).at) (λ g. link_sum n potential (page_of n (home g) [] x g).at) m.page q.0
+          (λ k z. let e = ap (λ (w : World). link_sum n potential w.at) (d.moved.others k z) in omega (arith, e)) d.falls)
 
 pub law : Law
 law room n p home fit = (

@@ -1,6 +1,6 @@
 -- A house as the law over runs sees it: every station's rows and texts, page by page, and the lists of the line.
 use Rattle.std.specs.Prelude.{ℕ, Bool, false, cond, not, ◌&&◌, List, [], ◌∷◌, is_ok, Result, ◌==◌, nat_lt}
-use Rattle.station.specs.declared.refusal.Refusal.{Refusal}
+use Rattle.line.specs.declared.refusal.Refusal.{Refusal}
 use Rattle.line.specs.Messages.{Msg}
 use Rattle.line.specs.Lists.{Lists, taken}
 use Rattle.notes.specs.declared.row.Access.{Access}

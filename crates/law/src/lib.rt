@@ -4,8 +4,6 @@
 ghost use Rattle.law.specs.Law.{Law};
 
 /// The law, as a theorem.
-pub fn law_stands() -> u8
+pub fn law_stands()
     ensures { Law }
-{
-    0
-}
+{}

@@ -1,8 +1,7 @@
 -- The lists of a line, and what each call of a line answers and does to them.
 use Rattle.std.specs.Prelude.{ℕ, zero, suc, ◌+◌, Bool, cond, not, ◌&&◌, List, [], ◌∷◌, ◌++◌, length, Ok, Err, Result, ◌==◌, nat_lt}
-use Rattle.line.specs.declared.refusal.Place.TheVariants.{Pair}
 use Rattle.line.specs.declared.refusal.Refusal.{Refusal}
-use Rattle.line.specs.Refusals.{refused}
+use Rattle.line.specs.Refusals.{refused, between}
 use Rattle.line.specs.Messages.{Msg}
 
 -- For each ordered pair of stations, sender first, the messages that wait, oldest first.
@@ -49,24 +48,24 @@ Change = Result (Unit {0}) Refusal × Lists
 -- post, on a line of this capacity: NO PLACE where as many messages wait
 abbrev pub posting : ℕ → Msg → Lists → Change
 posting capacity m w =
-    cond (nat_lt (total w) capacity) (Ok tt, posted m w) (Err (refused 16 (Pair m.sender m.receiver)), w)
+    cond (nat_lt (total w) capacity) (Ok tt, posted m w) (Err (refused 16 (between m.sender m.receiver)), w)
 
 -- PAIR where there is no such pair
 abbrev pub pairing : ℕ → ℕ → Result (Unit {0}) Refusal
-pairing s r = cond (pair s r) (Ok tt) (Err (refused 14 (Pair s r)))
+pairing s r = cond (pair s r) (Ok tt) (Err (refused 14 (between s r)))
 
 -- count: PAIR where there is no such pair
 abbrev pub counting : ℕ → ℕ → Lists → Result ℕ Refusal
-counting s r w = cond (pair s r) (Ok (length (w s r))) (Err (refused 14 (Pair s r)))
+counting s r w = cond (pair s r) (Ok (length (w s r))) (Err (refused 14 (between s r)))
 
 -- a list's oldest message, or EMPTY
 abbrev pub oldest : ℕ → ℕ → List Msg → Result Msg Refusal
-oldest s r [] = Err (refused 15 (Pair s r))
+oldest s r [] = Err (refused 15 (between s r))
 oldest s r (m ∷ _) = Ok m
 
 -- peek: PAIR, then EMPTY
 abbrev pub peeking : ℕ → ℕ → Lists → Result Msg Refusal
-peeking s r w = cond (pair s r) (oldest s r (w s r)) (Err (refused 14 (Pair s r)))
+peeking s r w = cond (pair s r) (oldest s r (w s r)) (Err (refused 14 (between s r)))
 
 -- what is taken off, where there is an oldest message
 abbrev pub taking : ℕ → ℕ → Lists → Result Msg Refusal → Change

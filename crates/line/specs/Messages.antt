@@ -3,8 +3,8 @@ use Rattle.std.specs.Prelude.{◌≡◌, ℕ, cond, not, ◌&&◌, ◌||◌, Lis
 use Rattle.line.specs.declared.kind.Kind.{Kind}
 use Rattle.line.specs.declared.refusal.Refusal.{Refusal}
 use Rattle.line.specs.declared.fault.Misfit.{Misfit}
-use Rattle.line.specs.declared.fault.Misfit.TheVariants.{Receiver, Page, Sender, Length}
-use Rattle.line.specs.Kinds.{bears}
+use Rattle.line.specs.declared.fault.Misfit.TheVariants.{Receiver, Kind as KindPart, Page, Sender, Length}
+use Rattle.line.specs.Kinds.{kind_of, bears}
 use Rattle.line.specs.Refusals.{misfits}
 
 -- A message as plain data: its text is the bytes themselves.
@@ -37,3 +37,20 @@ unless (Some part) m = Err (misfits part)
 -- the message of these parts, or its refusal
 abbrev pub made : (sender receiver page : ℕ) → Kind → List ℕ → Result Msg Refusal
 made s r p k t = unless (misfit r k p s (length t)) (msg s r p k t)
+
+-- The same for a message whose kind may be any number.
+abbrev pub whole : Kind → Option Misfit → Result Kind Misfit
+whole k None = Ok k
+whole k (Some part) = Err part
+
+-- the kind, unless a part fits no message
+abbrev pub fitted : (receiver : ℕ) → Kind → (page sender length : ℕ) → Result Kind Misfit
+fitted r k p s n = whole k (misfit r k p s n)
+
+abbrev pub kinded : (receiver : ℕ) → Option Kind → (page sender length : ℕ) → Result Kind Misfit
+kinded r None p s n = Err KindPart
+kinded r (Some k) p s n = fitted r k p s n
+
+-- the kind that five words name, or the first word that fits no message together with those before it
+abbrev pub headed : (receiver kind page sender length : ℕ) → Result Kind Misfit
+headed r k p s n = cond (nat_le 8 r) (Err Receiver) (kinded r (kind_of k) p s n)

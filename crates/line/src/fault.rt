@@ -1,51 +1,68 @@
 // Why a line refuses a call, and why parts make no message.
-ghost use Rattle.std.specs.Prelude.{◌≡◌};
-ghost use Rattle.line.specs.Refusals.{told, misfits, title};
+ghost use Rattle.std.specs.Prelude.{◌≡◌, Some};
+ghost use Rattle.line.specs.Refusals.{told, misfits, title, misfit_title};
 
+use crate::pair::Pair;
 use crate::refusal::{Layer, Place, Refusal};
+use std::error::Error;
+use std::fmt;
 
-/// Why a call of a line is refused, with the sender and the receiver that it named.
-#[derive(Clone, Copy, Debug)]
+// The impls below are written out: those that a library could derive have no contract.
+
+/// Why a call of a line is refused, with the pair that it named.
+#[derive(Clone, Copy, Debug, PartialEq, Eq)]
 pub enum LineFault {
     /// The two numbers are not those of two different stations.
-    Pair(u8, u8),
+    Pair(Pair),
     /// No message of the pair waits.
-    Empty(u8, u8),
+    Empty(Pair),
     /// As many messages wait as the line holds.
-    NoPlace(u8, u8),
+    NoPlace(Pair),
 }
 
-impl LineFault {
-    /// The layer, the number and the place of the refusal.
-    pub fn refusal(self) -> Refusal
-        ensures { result ≡ told self }
-    {
-        let (number, sender, receiver) = match self {
-            LineFault::Pair(sender, receiver) => (14, sender, receiver),
-            LineFault::Empty(sender, receiver) => (15, sender, receiver),
-            LineFault::NoPlace(sender, receiver) => (16, sender, receiver),
+/// The layer, the number and the place of the refusal.
+impl From<LineFault> for Refusal {
+    ghost from_gives = { λ fault refusal. refusal ≡ told fault };
+
+    fn from(fault: LineFault) -> Refusal {
+        let (number, pair) = match fault {
+            LineFault::Pair(pair) => (14, pair),
+            LineFault::Empty(pair) => (15, pair),
+            LineFault::NoPlace(pair) => (16, pair),
         };
         Refusal {
             layer: Layer::Line,
             number,
-            place: Place::Pair(sender, receiver),
+            place: Place::Pair(pair),
         }
     }
+}
 
+impl LineFault {
     /// The refusal's name.
     pub fn name(self) -> &'static str
         ensures { result.now ≡ title self }
     {
         match self {
-            LineFault::Pair(_, _) => "PAIR",
-            LineFault::Empty(_, _) => "EMPTY",
-            LineFault::NoPlace(_, _) => "NO PLACE",
+            LineFault::Pair(_) => "PAIR",
+            LineFault::Empty(_) => "EMPTY",
+            LineFault::NoPlace(_) => "NO PLACE",
         }
     }
 }
 
+impl fmt::Display for LineFault {
+    ghost output = { λ fault. Some (title fault) };
+
+    fn fmt<W: fmt::Write>(&self, f: &mut fmt::Formatter<W>) -> fmt::Result {
+        f.write_str(self.name())
+    }
+}
+
+impl Error for LineFault {}
+
 /// The first part of a message, in the order of a frame, that fits no message together with the parts before it.
-#[derive(Clone, Copy, Debug)]
+#[derive(Clone, Copy, Debug, PartialEq, Eq)]
 pub enum Misfit {
     Receiver,
     Kind,
@@ -54,12 +71,12 @@ pub enum Misfit {
     Length,
 }
 
-impl Misfit {
-    /// The layer, the number and the place of the refusal: the offset that the part has in a frame.
-    pub fn refusal(self) -> Refusal
-        ensures { result ≡ misfits self }
-    {
-        let offset = match self {
+/// The layer, the number and the place of the refusal: the offset that the part has in a frame.
+impl From<Misfit> for Refusal {
+    ghost from_gives = { λ part refusal. refusal ≡ misfits part };
+
+    fn from(part: Misfit) -> Refusal {
+        let offset = match part {
             Misfit::Receiver => 0,
             Misfit::Kind => 4,
             Misfit::Page => 8,
@@ -73,3 +90,14 @@ impl Misfit {
         }
     }
 }
+
+/// The refusal's name, which is the same for every part.
+impl fmt::Display for Misfit {
+    ghost output = { λ part. Some (misfit_title part) };
+
+    fn fmt<W: fmt::Write>(&self, f: &mut fmt::Formatter<W>) -> fmt::Result {
+        f.write_str("NO MESSAGE")
+    }
+}
+
+impl Error for Misfit {}

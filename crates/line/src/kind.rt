@@ -1,9 +1,13 @@
 // The ten kinds of message, by their numbers.
-ghost use Rattle.std.specs.Prelude.{◌≡◌};
-ghost use Rattle.line.specs.Kinds.{number as number_of, kind_of, bears, title};
+ghost use Rattle.std.specs.Prelude.{◌≡◌, Some, ok_or};
+ghost use Rattle.line.specs.declared.fault.Misfit.TheVariants.{Kind as KindPart};
+ghost use Rattle.line.specs.Kinds.{number, kind_of, bears, title};
+
+use crate::fault::Misfit;
+use std::fmt;
 
 /// What a message asks, gives or answers. Kinds 1 to 4 go from a page's home to the other stations, 5 to 10 to the home.
-#[derive(Clone, Copy)]
+#[derive(Clone, Copy, Debug, PartialEq, Eq)]
 pub enum Kind {
     SharedCopy = 1,
     ExclusiveCopy = 2,
@@ -17,33 +21,39 @@ pub enum Kind {
     FlushWithText = 10,
 }
 
-impl Kind {
-    /// The kind's number, 1 to 10.
-    pub fn number(self) -> u8
-        ensures { result ≡ number_of self }
-    {
-        self as u8
-    }
+/// The kind's number, 1 to 10.
+impl From<Kind> for u8 {
+    ghost from_gives = { λ kind n. n ≡ number kind };
 
-    /// The kind with this number.
-    pub fn from_number(number: u32) -> Option<Kind>
-        ensures { result ≡ kind_of number }
-    {
+    fn from(kind: Kind) -> u8 {
+        kind as u8
+    }
+}
+
+/// The kind with this number: any other number fits no message.
+impl TryFrom<u32> for Kind {
+    type Error = Misfit;
+
+    ghost try_from_gives = { λ n r. r ≡ ok_or (kind_of n) KindPart };
+
+    fn try_from(number: u32) -> Result<Kind, Misfit> {
         match number {
-            1 => Some(Kind::SharedCopy),
-            2 => Some(Kind::ExclusiveCopy),
-            3 => Some(Kind::ModifyGrant),
-            4 => Some(Kind::Invalidate),
-            5 => Some(Kind::ReadRequest),
-            6 => Some(Kind::WriteRequest),
-            7 => Some(Kind::Ack),
-            8 => Some(Kind::AckWithText),
-            9 => Some(Kind::Flush),
-            10 => Some(Kind::FlushWithText),
-            _ => None,
+            1 => Ok(Kind::SharedCopy),
+            2 => Ok(Kind::ExclusiveCopy),
+            3 => Ok(Kind::ModifyGrant),
+            4 => Ok(Kind::Invalidate),
+            5 => Ok(Kind::ReadRequest),
+            6 => Ok(Kind::WriteRequest),
+            7 => Ok(Kind::Ack),
+            8 => Ok(Kind::AckWithText),
+            9 => Ok(Kind::Flush),
+            10 => Ok(Kind::FlushWithText),
+            _ => Err(Misfit::Kind),
         }
     }
+}
 
+impl Kind {
     /// Whether a message of this kind may bear a text.
     pub fn bears_text(self) -> bool
         ensures { result ≡ bears self }
@@ -70,5 +80,13 @@ impl Kind {
             Kind::Flush => "FLUSH",
             Kind::FlushWithText => "FLUSH WITH TEXT",
         }
+    }
+}
+
+impl fmt::Display for Kind {
+    ghost output = { λ kind. Some (title kind) };
+
+    fn fmt<W: fmt::Write>(&self, f: &mut fmt::Formatter<W>) -> fmt::Result {
+        f.write_str(self.name())
     }
 }

@@ -1,24 +1,12 @@
-// A message, with all that is true of every message in its type.
-ghost use Rattle.std.specs.Prelude.{◌≡◌, ◌<◌, ◌≤◌, false, ◌≢◌};
-ghost use Rattle.line.specs.Kinds.{bears};
-
-use crate::kind::Kind;
+// A message, with all that is true of every message in its header's type.
+use crate::header::Header;
 
 pub mod methods;
 
-/// A message from one station to another about a page, with a text of at most 64 bytes where its kind bears one.
+/// A message from one station to another about a page: the text is the first bytes, as many as the header says. The
+/// bytes are a fixed array, so that a message can be copied and needs no heap.
 #[derive(Clone, Copy)]
 pub struct Message {
-    sender: u8,
-    receiver: u8,
-    page: u8,
-    kind: Kind,
-    length: usize,
+    header: Header,
     text: [u8; 64],
-    ghost sender_in: { sender < 8 },
-    ghost receiver_in: { receiver < 8 },
-    ghost apart: { (sender ≢ receiver) },
-    ghost page_in: { page < 16 },
-    ghost length_in: { length ≤ 64 },
-    ghost mute: { (bears kind ≡ false → length ≡ 0) },
 }

@@ -1,69 +1,94 @@
 -- A frame on its way off a frame line.
-use Rattle.std.proofs.Common.{◌≡◌, ℕ, ◌+◌, ◌-◌, ◌≤◌, List, [], ◌∷◌, ◌++◌, length, take, drop, sym, ap, ◌∙◌, subst, arith}
-use lib.Seq.{paste}
-use Rattle.std.specs.List.{AllByRecursion as All}
-use Rattle.std.proofs.ByRecursion.{All-append}
-use Rattle.std.proofs.lemmas.List.{take_at, drop_at, drop-drop, take_all, length-drop, length-append}
-use Rattle.std.proofs.lemmas.List.Edits.{take-paste}
+use Rattle.std.proofs.Common.{◌≡◌, ℕ, suc, ◌+◌, ◌-◌, ◌≤◌, Bool, true, false, Some, is_some, unwrap_or, vec_items, Option, Ok, List, [], ◌∷◌, ◌++◌, length, take, drop, sym, refl, ap, ◌∙◌, subst, ⊎_elim, arith, length-append}
+use Rattle.std.specs.List.{find, remove, remove_range, position_or_len}
+use Rattle.std.proofs.lemmas.List.{take_at, drop_at, drop-drop}
+use Rattle.std.proofs.lemmas.List.Elements.{All-append, All-take, All-drop}
+use Rattle.std.proofs.lemmas.Bool.{cases_Bool, cond-true, cond-false, false≢true}
 use Rattle.line.specs.Messages.{Msg, Fits}
 use Rattle.frame.specs.Frames.{encoded, size}
 use Rattle.frame.proofs.Round.{leaves}
 use Rattle.lines.specs.Framed.{framed}
-use Rattle.lines.proofs.Framing.{Holds, framed_append, framed_cons}
+use Rattle.lines.specs.Slots.{Spot, placed}
+use Rattle.lines.specs.declared.framed.FrameLine.{FrameLine}
+use Rattle.lines.specs.Kept.{log}
+use Rattle.lines.specs.Logs.{goes, searched}
+use Rattle.lines.proofs.Logs.{sought}
+use Rattle.lines.proofs.Framing.{Holds, keeps, framed_append, framed_cons}
 
--- a part of a list of which something holds throughout
-all_front : (xs ys : List Msg) → All Fits (xs ++ ys) → All Fits xs
-all_front [] ys h = tt
-all_front (x ∷ xs) ys h = (h.0, all_front xs ys h.1)
+-- the first message that passes the test t, in a log whose first frame begins at the byte `at`
+record Cut (t : Msg → Bool) (at : ℕ) (log : List Msg) (p : Spot) : Type 0 where
+  front : List Msg
+  back : List Msg
+  about : log ≡ front ++ p.message ∷ back
+  starts : p.start ≡ at + length (framed front)
+  ends : p.end ≡ p.start + size p.message
+  rest : remove log (position_or_len t log) ≡ front ++ back
 
-all_back : (xs ys : List Msg) → All Fits (xs ++ ys) → All Fits ys
-all_back [] ys h = h
-all_back (x ∷ xs) ys h = all_back xs ys h.1
+behind : (t : Msg → Bool) (m : Msg) (log : List Msg) → t m ≡ false → remove (m ∷ log) (position_or_len t (m ∷ log)) ≡ m ∷ remove log (position_or_len t log)
+behind t m log n = grind (arith, n)
 
--- the frame of m lies at this place, behind those of front
-module _ (n : ℕ) (bs : List ℕ) (log : List Msg) (h : Holds n bs log) (front : List Msg) (m : Msg) (back : List Msg)
-    (about : log ≡ front ++ m ∷ back) (at sz : ℕ) (from : at ≡ length (framed front)) (takes : sz ≡ size m) where
-  split : bs ≡ framed front ++ (encoded m ++ framed back)
+cuts : (t : Msg → Bool) (at : ℕ) (log : List Msg) (p : Spot) → find (λ q. t q.message) (placed at log) ≡ Some p → Cut t at log p
+unfolding placed framed
+cuts t at [] p e = absurd (false≢true (ap (λ (o : Option Spot). is_some o) e))
+cuts t at (m ∷ log) p e =
+    ⊎_elim
+    (λ (y : t m ≡ true).
+    let here : Spot = record { message = m; start = at; end = at + size m } in
+    let is : here ≡ p = ap (λ (o : Option Spot). unwrap_or o here) (sym (cond-true (t m) _ _ y) ∙ e) in
+    subst (Cut t at (m ∷ log)) is (record { front = []; back = log; about = refl; starts = omega arith; ends = refl; rest = rw y refl }))
+    (λ (n : t m ≡ false).
+    let c = cuts t (at + size m) log p (sym (cond-false (t m) _ _ n) ∙ e) in
+    record {
+      front = m ∷ c.front;
+      back = c.back;
+      about = ap (λ (ms : List Msg). m ∷ ms) c.about;
+      starts = omega (arith, c.starts, length-append m.text (framed c.front));
+      ends = c.ends;
+      rest = behind t m log n ∙ ap (λ (ms : List Msg). m ∷ ms) c.rest;
+    })
+    (cases_Bool (t m))
+
+-- the frame of the pair's oldest message on a frame line
+module _ (f : FrameLine) (a b : ℕ) (p : Spot) (found : Ok p ≡ searched a b (find (λ q. goes a b q.message) (placed 0 (log f)))) where
+  h : Holds f.count (vec_items f.frames) (log f)
+  h = keeps f
+
+  cut : Cut (goes a b) 0 (log f) p
+  cut = cuts (goes a b) 0 (log f) p (sought a b _ p found)
+
+  split : vec_items f.frames ≡ framed cut.front ++ (encoded p.message ++ framed cut.back)
   split =
-      h.bytes ∙ ap framed about ∙ framed_append front (m ∷ back)
-      ∙ ap (λ (z : List ℕ). framed front ++ z) (framed_cons m back)
+      h.bytes ∙ ap framed cut.about ∙ framed_append cut.front (p.message ∷ cut.back)
+      ∙ ap (λ (z : List ℕ). framed cut.front ++ z) (framed_cons p.message cut.back)
 
-  long : length bs ≡ at + sz + length (framed back)
-  long =
-      let e : length (encoded m ++ framed back) ≡ size m + length (framed back) =
-      length-append (encoded m) (framed back) ∙ omega arith in
-      omega (arith, ap length split, length-append (framed front) (encoded m ++ framed back), e, from, takes)
+  many : length (log f) ≡ length cut.front + suc (length cut.back)
+  many = ap length cut.about ∙ length-append cut.front (p.message ∷ cut.back)
 
-  pub ends : at + sz ≤ length bs
-  ends = omega (arith, long)
+  pub some : 1 ≤ f.count
+  some = omega (arith, h.many, many)
 
-  pub some : 1 ≤ n
-  some = omega (arith, h.many, ap length about, length-append front (m ∷ back))
+  pub forward : p.start ≤ p.end
+  forward = omega (arith, cut.ends)
 
-  first : take at bs ≡ framed front
-  first = ap (take at) split ∙ take_at (framed front) (encoded m ++ framed back) at (sym from)
+  pub within : p.end ≤ length (vec_items f.frames)
+  within =
+      omega (arith, ap length split, length-append (framed cut.front) (encoded p.message ++ framed cut.back), length-append p.message.text (framed cut.back), cut.starts, cut.ends)
 
-  last : drop (at + sz) bs ≡ framed back
+  first : take p.start (vec_items f.frames) ≡ framed cut.front
+  first = ap (take p.start) split ∙ take_at (framed cut.front) (encoded p.message ++ framed cut.back) p.start (omega (arith, cut.starts))
+
+  last : drop p.end (vec_items f.frames) ≡ framed cut.back
   last =
-      sym (drop-drop sz at bs)
-      ∙ ap (λ (z : List ℕ). drop sz (drop at z)) split
-      ∙ ap (drop sz) (drop_at (framed front) (encoded m ++ framed back) at (sym from))
-      ∙ ap (λ (j : ℕ). drop j (encoded m ++ framed back)) takes
-      ∙ leaves m (framed back)
+      (λ i. drop (cut.ends i) (split i)) ∙ sym (drop-drop (size p.message) p.start (framed cut.front ++ (encoded p.message ++ framed cut.back)))
+      ∙ ap (drop (size p.message)) (drop_at (framed cut.front) (encoded p.message ++ framed cut.back) p.start (omega (arith, cut.starts)))
+      ∙ leaves p.message (framed cut.back)
 
-  -- the bytes behind it are copied over it, and the rest is cut off
-  pub cut : (len left : ℕ) (xs ys : List ℕ) → len ≡ length bs → left + sz ≡ len → xs ≡ paste bs at (drop (at + sz) bs) (len - (at + sz)) → ys ≡ take left xs
-      → Holds (n - 1) ys (front ++ back)
-  cut len left xs ys el es ex ey =
-      let rest = drop (at + sz) bs in
-      let k = len - (at + sz) in
-      let e : left ≡ at + k = omega (arith, ends, el, es) in
-      let lr : length rest ≡ k = length-drop (at + sz) bs ∙ omega (arith, el) in
+  -- it is gone, and the bytes behind it have moved up
+  pub left : (ys : List ℕ) → ys ≡ remove_range (vec_items f.frames) p.start p.end → Holds (f.count - 1) ys (remove (log f) (position_or_len (goes a b) (log f)))
+  left ys e =
+      let i = position_or_len (goes a b) (log f) in
       record {
-        bytes = ey ∙ (λ i. take (e i) (ex i)) ∙ take-paste bs at rest k (omega (arith, ends)) (omega (arith, lr))
-            ∙ (λ i. first i ++ take_all k rest (omega (arith, lr)) i) ∙ ap (λ (z : List ℕ). framed front ++ z) last
-            ∙ sym (framed_append front back);
-        many = omega (arith, h.many, ap length about, length-append front (m ∷ back), length-append front back);
-        fit = All-append Fits front back (all_front front (m ∷ back) (subst (All Fits) about h.fit))
-            (all_back front (m ∷ back) (subst (All Fits) about h.fit)).1;
+        bytes = e ∙ (λ j. first j ++ last j) ∙ sym (framed_append cut.front cut.back) ∙ ap framed (sym cut.rest);
+        many = omega (arith, h.many, many, ap length cut.rest, length-append cut.front cut.back);
+        fit = All-append Fits (take i (log f)) (drop (suc i) (log f)) (All-take Fits i (log f) h.fit) (All-drop Fits (suc i) (log f) h.fit);
       }

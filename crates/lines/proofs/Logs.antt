@@ -1,130 +1,111 @@
--- What posting, counting and taking off do to the lists of a log.
-use Rattle.std.proofs.Common.{◌≡◌, ℕ, ◌+◌, true, false, cond, ◌&&◌, eqb, ltb, List, [], ◌∷◌, ◌++◌, length, sym, refl, ap, ◌∙◌, ⊎_elim, append-nil, arith}
+-- What posting, counting, peeking and taking off do to the lists of a log.
+use Rattle.std.proofs.Common.{◌≡◌, ℕ, ◌<◌, Bool, position, get_or, true, false, cond, ◌&&◌, eqb, ltb, List, [], ◌∷◌, ◌++◌, filter, length, Ok, None, Some, Option, Result, sym, refl, ap, ◌∙◌, ⊎_elim, append-nil, arith}
 use mathlib.Core.Path.{fun_ext}
-use Rattle.std.specs.List.{AllByRecursion as All}
-use Rattle.std.proofs.lemmas.List.Elements.{filter-append}
-use Rattle.std.proofs.lemmas.Bool.{cases_Bool, eq-eqb, eqb-true, and_parts, and_from, both_ways, ltb-true}
+use Rattle.std.specs.List.{All, find, remove, position_or_len}
+use Rattle.std.specs.Option.{ok_or, option_map}
+use Rattle.std.specs.Result.{result_map_both}
+use Rattle.line.specs.declared.fault.LineFault.{LineFault}
+use Rattle.line.specs.declared.fault.LineFault.TheVariants.{Empty}
+use Rattle.std.proofs.lemmas.List.Elements.{All-head, All-tail, filter-append}
+use Rattle.std.proofs.lemmas.Bool.{cases_Bool, and_parts, ltb-true}
+use Rattle.line.specs.declared.refusal.Refusal.{Refusal}
+use Rattle.line.specs.Refusals.{refused, told, pair_of, between}
 use Rattle.line.specs.Messages.{Msg}
-use Rattle.line.specs.Lists.{Lists, pair, paired, empty, total, posted, behind, taken, sum_to}
-use Rattle.line.proofs.Totals.{total_more}
-use Rattle.lines.specs.Logs.{goes, of}
+use Rattle.line.specs.Lists.{pair, paired, empty, total, posted, behind, taken, sum_to, pairing, counting, peeking, oldest, Change, posting, dropping, taking}
+use Rattle.line.proofs.Totals.{total_more, posting_free}
+use Rattle.lines.specs.Logs.{goes, of, searched}
 
 -- m is between two different stations
 abbrev pub Proper : Msg → Type 0
 Proper m = pair m.sender m.receiver ≡ true
 
-pub goes_here : (m : Msg) → goes m.sender m.receiver m ≡ true
-goes_here m = and_from _ _ (eq-eqb m.sender m.sender refl) (eq-eqb m.receiver m.receiver refl)
-
-pub goes_from : (a b : ℕ) (m : Msg) → goes a b m ≡ true → (a ≡ m.sender) × (b ≡ m.receiver)
-goes_from a b m t = let e = and_parts _ _ t in (eqb-true _ _ e.0, eqb-true _ _ e.1)
-
-pub of_append : (xs ys : List Msg) (a b : ℕ) → of (xs ++ ys) a b ≡ of xs a b ++ of ys a b
-unfolding of
-of_append xs ys a b = filter-append (goes a b) xs ys
-
-pub of_one : (m : Msg) (a b : ℕ) → of (m ∷ []) a b ≡ cond (goes a b m) (m ∷ []) []
-unfolding of
-of_one m a b = refl
-
-of_here : (m : Msg) (xs : List Msg) (a b : ℕ) → goes a b m ≡ true → of (m ∷ xs) a b ≡ m ∷ of xs a b
-unfolding of
-of_here m xs a b t = rw t
-
-of_other : (m : Msg) (xs : List Msg) (a b : ℕ) → goes a b m ≡ false → of (m ∷ xs) a b ≡ of xs a b
-unfolding of
-of_other m xs a b t = rw t
-
-pub of_none : of [] ≡ empty
-unfolding of
-of_none = refl
-
--- one message more at the end of the log is last in its pair's list
-pub posted_of : (xs : List Msg) (m : Msg) → of (xs ++ m ∷ []) ≡ posted m (of xs)
-unfolding posted
-posted_of xs m =
-    fun_ext (λ a. fun_ext (λ b. of_append xs (m ∷ []) a b ∙ ap (λ (z : List Msg). of xs a b ++ z) (of_one m a b) ∙ ⊎_elim
-    (λ (t : goes a b m ≡ true). rw t)
-    (λ (t : goes a b m ≡ false). rw t (append-nil (of xs a b)))
-    (cases_Bool (goes a b m))))
-
-silent : (xs : List Msg) (a b : ℕ) → All Proper xs → pair a b ≡ false → of xs a b ≡ []
-silent [] a b h t = ap (λ (w : Lists). w a b) of_none
-silent (m ∷ xs) a b h t =
-    ⊎_elim
-    (λ (g : goes a b m ≡ true).
-    let e = goes_from a b m g in absurd (both_ways (pair a b) t ((λ i. pair (e.0 i) (e.1 i)) ∙ h.0)))
-    (λ (g : goes a b m ≡ false). of_other m xs a b g ∙ silent xs a b h.1 t)
-    (cases_Bool (goes a b m))
-
--- nothing waits between what is no pair
-pub paired_of : (xs : List Msg) → All Proper xs → paired (of xs) ≡ of xs
-unfolding paired
-paired_of xs h =
-    fun_ext (λ a. fun_ext (λ b. ⊎_elim
-    (λ (t : pair a b ≡ true). rw t)
-    (λ (t : pair a b ≡ false). rw t (sym (silent xs a b h t)))
-    (cases_Bool (pair a b))))
-
 -- nothing waits where the log is empty
 pub none : paired (of []) ≡ empty
-none = paired_of [] tt ∙ of_none
+unfolding paired of
+none = fun_ext (λ a. fun_ext (λ b. grind arith))
 
-pub total_none : total (of []) ≡ 0
-unfolding total sum_to of
-total_none = refl
+-- a message posted last is last in its pair's list
+posted_of : (xs : List Msg) (m : Msg) → Proper m → paired (of (xs ++ m ∷ [])) ≡ posted m (paired (of xs))
+unfolding paired of posted
+posted_of xs m p =
+    fun_ext (λ a. fun_ext (λ b. grind (arith, filter-append (goes a b) xs (m ∷ []), append-nil (filter (goes a b) xs), p)))
 
--- a message put first makes one list longer by one
-total_cons : (m : Msg) (xs : List Msg) → Proper m → total (of (m ∷ xs)) ≡ total (of xs) + 1
-total_cons m xs h =
-    let p = and_parts (ltb m.sender 8) _ h in
+-- without the pair's oldest message, that is gone from its list, and every other list stands
+taken_at : (xs : List Msg) (a b p q : ℕ) → of (remove xs (position_or_len (goes a b) xs)) p q ≡ cond (eqb p a && eqb q b) (behind (of xs p q)) (of xs p q)
+unfolding of
+taken_at [] a b p q = grind arith
+taken_at (m ∷ xs) a b p q =
+    ⊎_elim
+    (λ (t : goes a b m ≡ true). rw t (grind (arith, t)))
+    (λ (t : goes a b m ≡ false). rw t (grind (arith, t, taken_at xs a b p q)))
+    (cases_Bool (goes a b m))
+
+taken_of : (xs : List Msg) (a b : ℕ) → paired (of (remove xs (position_or_len (goes a b) xs))) ≡ taken a b (paired (of xs))
+unfolding paired taken
+taken_of xs a b = fun_ext (λ p. fun_ext (λ q. grind (arith, taken_at xs a b p q)))
+
+-- a log of messages between stations holds as many as its lists together
+pub total_of : (xs : List Msg) → All Proper xs → total (paired (of xs)) ≡ length xs
+unfolding paired of total sum_to
+total_of [] h = grind arith
+total_of (m ∷ xs) h =
+    let p = and_parts (ltb m.sender 8) _ (All-head Proper m xs h) in
     let q = and_parts (ltb m.receiver 8) _ p.1 in
-    let e : length (of (m ∷ xs) m.sender m.receiver) ≡ length (m ∷ of xs m.sender m.receiver) =
-    ap length (of_here m xs m.sender m.receiver (goes_here m)) in
-    total_more (of xs) (of (m ∷ xs)) m.sender m.receiver (ltb-true _ _ p.0) (ltb-true _ _ q.0) (omega arith)
-    (λ a b ne. ⊎_elim
-    (λ (g : goes a b m ≡ true). absurd (ne (goes_from a b m g)))
-    (λ (g : goes a b m ≡ false). of_other m xs a b g)
-    (cases_Bool (goes a b m)))
+    omega (arith, total_of xs (All-tail Proper m xs h), total_more (paired (of xs)) (paired (of (m ∷ xs))) m.sender m.receiver (ltb-true _ _ p.0) (ltb-true _ _ q.0) (grind (arith, All-head Proper m xs h)) (λ a b ne. grind (arith, ne)))
 
--- a log holds as many as its lists together
-pub total_of : (xs : List Msg) → All Proper xs → total (of xs) ≡ length xs
-total_of [] h = total_none
-total_of (m ∷ xs) h = omega (arith, total_of xs h.1, total_cons m xs h.0)
+-- a search of the log finds what waits
+oldest_of : (a b : ℕ) (xs : List Msg) → oldest a b (of xs a b) ≡ ok_or (find (goes a b) xs) (refused 15 (between a b))
+unfolding of
+oldest_of a b [] = refl
+oldest_of a b (m ∷ xs) = grind (arith, oldest_of a b xs)
 
--- a log in which the pair's oldest message is m
-module _ (front : List Msg) (m : Msg) (back : List Msg) (a b : ℕ) (none : of front a b ≡ []) (here : goes a b m ≡ true) where
-  pub oldest_of : of (front ++ m ∷ back) a b ≡ m ∷ of back a b
-  oldest_of =
-      of_append front (m ∷ back) a b
-      ∙ ap (λ (z : List Msg). z ++ of (m ∷ back) a b) none
-      ∙ of_here m back a b here
+pub counts : (a b : ℕ) (xs : List Msg) (n : ℕ) → Ok tt ≡ pairing a b → n ≡ length (filter (goes a b) xs) → Ok n ≡ counting a b (paired (of xs))
+unfolding paired of
+counts a b xs n e w = grind (arith, e, w)
 
-  without : of (front ++ back) a b ≡ of back a b
-  without = of_append front back a b ∙ ap (λ (z : List Msg). z ++ of back a b) none
+opened : {X : Type 0} (f : X → Msg) (found : Option X) (e : Refusal) → result_map_both f (λ e. e) (ok_or found e) ≡ ok_or (option_map f found) e
+opened f None e = refl
+opened f (Some x) e = refl
 
-  beside : (p q : ℕ) → goes p q m ≡ false → of (front ++ back) p q ≡ of (front ++ m ∷ back) p q
-  beside p q g =
-      of_append front back p q
-      ∙ ap (λ (z : List Msg). of front p q ++ z) (sym (of_other m back p q g))
-      ∙ sym (of_append front (m ∷ back) p q)
+-- what was found in the log of xs, of which f reads the message
+module _ {X : Type 0} (f : X → Msg) (a b : ℕ) (xs : List Msg) (found : Option X) (first : option_map f found ≡ find (goes a b) xs) (r : Result X Refusal) (is : r ≡ searched a b found) where
+  pub peeks : result_map_both f (λ e. e) r ≡ peeking a b (paired (of xs))
+  unfolding paired
+  peeks =
+      rw is
+      (⊎_elim
+      (λ (t : pair a b ≡ true). rw t (opened f found _ ∙ ap (λ (o : Option Msg). ok_or o (refused 15 (between a b))) first ∙ sym (oldest_of a b xs)))
+      (λ (t : pair a b ≡ false). rw t refl)
+      (cases_Bool (pair a b)))
 
-  -- it is gone from its list, and every other list stands
-  pub taken_of : of (front ++ back) ≡ taken a b (of (front ++ m ∷ back))
-  unfolding taken
-  taken_of =
-      fun_ext (λ p. fun_ext (λ q. ⊎_elim
-      (λ (t : (eqb p a && eqb q b) ≡ true).
-      let e = and_parts (eqb p a) (eqb q b) t in
-      rw t ((λ i. of (front ++ back) (eqb-true p a e.0 i) (eqb-true q b e.1 i))
-      ∙ without ∙ sym (ap behind oldest_of)
-      ∙ (λ i. behind (of (front ++ m ∷ back) (sym (eqb-true p a e.0) i) (sym (eqb-true q b e.1) i)))))
-      (λ (t : (eqb p a && eqb q b) ≡ false).
-      rw t (beside p q (⊎_elim
-      (λ (g : goes p q m ≡ true).
-      let e = goes_from p q m g in
-      let f = goes_from a b m here in
-      absurd (both_ways _ t (and_from _ _ (eq-eqb p a (e.0 ∙ sym f.0)) (eq-eqb q b (e.1 ∙ sym f.1)))))
-      (λ (g : goes p q m ≡ false). g)
-      (cases_Bool (goes p q m)))))
-      (cases_Bool (eqb p a && eqb q b))))
+  pub stands : ◌≡◌ {A = Change} (taking a b (paired (of xs)) (result_map_both f (λ e. e) r)) (dropping a b (paired (of xs)))
+  stands = ap (taking a b (paired (of xs))) peeks
+
+  pub drops : (x : X) → r ≡ Ok x → (ys : List Msg) → ys ≡ remove xs (position_or_len (goes a b) xs) → ◌≡◌ {A = Change} (Ok tt, paired (of ys)) (dropping a b (paired (of xs)))
+  drops x e ys g =
+      (λ i. (Ok tt, (ap (λ (zs : List Msg). paired (of zs)) g ∙ taken_of xs a b) i))
+      ∙ ap (λ (z : Result X Refusal). taking a b (paired (of xs)) (result_map_both f (λ e. e) z)) (sym e) ∙ stands
+
+-- what was found behind the test of the pair
+pub searches : {X Y : Type 0} (f : X → Y) (a b : ℕ) (found : Option X) (r : Result X LineFault) → Ok tt ≡ pairing a b → r ≡ ok_or found (Empty (pair_of a b))
+    → result_map_both f told r ≡ searched a b (option_map f found)
+searches f a b None r e w = rw w (grind (arith, e))
+searches f a b (Some x) r e w = rw w (grind (arith, e))
+
+-- and what was found so
+pub sought : {X : Type 0} (a b : ℕ) (found : Option X) (x : X) → Ok x ≡ searched a b found → found ≡ Some x
+sought a b found x e = grind (arith, e)
+
+-- the place of the pair's oldest message
+pub at_place : (p : Msg → Bool) (xs : List Msg) (d : Msg) → option_map (λ i. get_or xs i d) (position p xs) ≡ find p xs
+at_place p [] d = refl
+at_place p (x ∷ xs) d = grind (arith, at_place p xs d)
+
+pub is_place : (p : Msg → Bool) (xs : List Msg) (i : ℕ) → position p xs ≡ Some i → (position_or_len p xs ≡ i) × (i < length xs)
+is_place p xs i e = (grind (arith, e), grind (arith, e))
+
+-- one message more
+pub posts : (xs : List Msg) (m : Msg) (room : ℕ) (ys : List Msg) → Proper m → total (paired (of xs)) < room → ys ≡ xs ++ m ∷ []
+    → ◌≡◌ {A = Change} (Ok tt, paired (of ys)) (posting room m (paired (of xs)))
+posts xs m room ys p lt e =
+    (λ i. (Ok tt, (ap (λ (zs : List Msg). paired (of zs)) e ∙ posted_of xs m p) i)) ∙ sym (posting_free room m (paired (of xs)) lt)

@@ -1,12 +1,12 @@
 -- The frames of a log, one after another, and the log that such bytes hold.
-use Rattle.std.specs.Prelude.{ℕ, zero, suc, List, [], ◌∷◌, ◌++◌, drop, Some, None, Ok, Err, Option, Result}
+use Rattle.std.specs.Prelude.{ℕ, zero, suc, List, [], ◌∷◌, drop, Some, None, Ok, Err, Option, Result}
+use Rattle.std.specs.List.{flat_map}
 use Rattle.line.specs.declared.refusal.Refusal.{Refusal}
 use Rattle.line.specs.Messages.{Msg}
 use Rattle.frame.specs.Frames.{encoded, decoded}
 
 unfoldable pub framed : List Msg → List ℕ
-framed [] = []
-framed (m ∷ ms) = encoded m ++ framed ms
+framed ms = flat_map encoded ms
 
 abbrev pub consed : Msg → Option (List Msg) → Option (List Msg)
 consed m None = None

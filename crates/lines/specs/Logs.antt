@@ -1,9 +1,10 @@
 -- A log: messages in order of posting, and what each pair has of it.
-use Rattle.std.specs.Prelude.{◌≡◌, ℕ, ◌<◌, Bool, true, ◌&&◌, List, [], length, take, Ok, Err, filter, Result, ◌==◌, slice_index_or}
-use Rattle.line.specs.declared.fault.LineFault.{LineFault}
-use Rattle.line.specs.Refusals.{told}
+use Rattle.std.specs.Prelude.{ℕ, Bool, cond, ◌&&◌, List, Err, filter, Option, Result, ◌==◌}
+use Rattle.std.specs.Option.{ok_or}
+use Rattle.line.specs.declared.refusal.Refusal.{Refusal}
+use Rattle.line.specs.Refusals.{refused, between}
 use Rattle.line.specs.Messages.{Msg}
-use Rattle.line.specs.Lists.{Lists, pair, paired, peeking}
+use Rattle.line.specs.Lists.{Lists, pair}
 
 -- whether m is of the pair
 abbrev pub goes : ℕ → ℕ → Msg → Bool
@@ -13,11 +14,6 @@ goes a b m = a == m.sender && b == m.receiver
 unfoldable pub of : List Msg → Lists
 of log a b = filter (goes a b) log
 
--- the place of the pair's oldest message in the log
-abbrev pub First : List Msg → ℕ → ℕ → ℕ → Type 0
-First log a b i = (i < length log) × (of (take i log) a b ≡ []) × ((d : Msg) → goes a b (slice_index_or log i d) ≡ true)
-
--- a search for the pair's oldest message: where it is, or refused as peek is
-abbrev pub Found : {X : Type 0} → (X → Type 0) → List Msg → ℕ → ℕ → Result X LineFault → Type 0
-Found here log a b (Ok x) = (pair a b ≡ true) × here x
-Found here log a b (Err e) = Err (told e) ≡ peeking a b (paired (of log))
+-- what a search for the pair's oldest message answers: where it is; PAIR, then EMPTY
+abbrev pub searched : {X : Type 0} → ℕ → ℕ → Option X → Result X Refusal
+searched a b found = cond (pair a b) (ok_or found (refused 15 (between a b))) (Err (refused 14 (between a b)))

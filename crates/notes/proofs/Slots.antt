@@ -1,17 +1,12 @@
 -- A queue in slots, up to the first free one.
-use Rattle.std.proofs.Common.{◌≡◌, ℕ, zero, suc, ◌+◌, ◌<◌, ◌≤◌, Bool, true, false, cond, not, List, [], ◌∷◌, ◌++◌, length, get_or, take, drop, set, is_some, Some, None, Option, refl, ap, ◌∙◌, arith}
-use Rattle.std.proofs.lemmas.List.{drop_more}
-use Rattle.std.proofs.lemmas.Bool.{eq-eqb, ne_eqb}
+use Rattle.std.proofs.Common.{◌≡◌, ℕ, zero, suc, ◌+◌, ◌<◌, ◌≤◌, ◌≢◌, MatchBool, Bool, true, false, List, [], ◌∷◌, ◌++◌, length, get_or, take, drop, set, is_some, IfSome, IsSome, IsSomeAnd, MatchOption, replicate, Some, None, Option, refl, sym, ap, add-one, length-drop, length-set, arith}
+use Rattle.std.proofs.lemmas.List.{get_or_past}
+use Rattle.std.proofs.lemmas.Bool.{eq-eqb, ne_eqb, or_right, false≢true}
 use Rattle.notes.specs.declared.queue.Entry.{Entry}
-use Rattle.notes.specs.Queues.{entries, oldest, queued}
+use Rattle.notes.specs.Queues.{entries, queued}
 
 abbrev Slots : Type 0
 Slots = List (Option Entry)
-
-pub first_is : (xs : Slots) → 0 < length xs → get_or xs 0 None ≡ oldest (entries xs)
-first_is [] lt = absurd (omega arith)
-first_is (None ∷ xs) lt = refl
-first_is (Some e ∷ xs) lt = refl
 
 -- the slots turned by one, with the last one free
 ends_free : (xs : Slots) (x : Option Entry) → entries (set (xs ++ x ∷ []) (length xs) None) ≡ entries xs
@@ -26,72 +21,77 @@ popped (Some x ∷ xs) ys l lt e =
     let n : 7 ≡ length xs = omega arith in
     rw (e, n) (ends_free xs (Some x))
 
--- the i first slots are taken
-pub Passed : ℕ → Slots → Type 0
-Passed zero xs = Unit {0}
-Passed (suc i) [] = ⊥
-Passed (suc i) (None ∷ xs) = ⊥
-Passed (suc i) (Some e ∷ xs) = Passed i xs
+none_first : (xs : Slots) → get_or xs 0 None ≡ None → entries xs ≡ []
+none_first [] n = refl
+none_first (None ∷ xs) n = refl
+none_first (Some e ∷ xs) n = let z : ◌≡◌ {A = ℕ} 0 1 = cc in absurd (omega arith)
 
-pub none_passed : (xs : Slots) → Passed 0 xs
-unfolding Passed
-none_passed xs = tt
+-- an entry in the first free slot, with none behind it
+placed : (i : ℕ) (xs zs : Slots) (e : Entry) → ((k : ℕ) → k < i → IsSome (get_or xs k None)) → i < length xs → get_or xs i None ≡ None → get_or zs 0 None ≡ None
+    → entries (take (suc i) (set xs i (Some e)) ++ zs) ≡ entries xs ++ e ∷ []
+placed zero [] zs e t l f n = absurd (omega arith)
+placed zero (x ∷ xs) zs e t l f n = rw (none_first (x ∷ xs) f, none_first zs n) refl
+placed (suc i) [] zs e t l f n = absurd (omega arith)
+placed (suc i) (None ∷ xs) zs e t l f n = absurd (false≢true (t 0 (omega arith)))
+placed (suc i) (Some x ∷ xs) zs e t l f n = ap (λ q. x ∷ q) (placed i xs zs e (λ k l. t (suc k) (omega arith)) (omega arith) f n)
 
-pub passes : (i : ℕ) (xs : Slots) (e : Entry) → i < length xs → Passed i xs → get_or xs i None ≡ Some e → Passed (suc i) xs
-unfolding Passed
-passes zero [] e lt p at = absurd (omega arith)
-passes (suc i) [] e lt p at = absurd (omega arith)
-passes zero (None ∷ xs) e lt p at = let z : ◌≡◌ {A = ℕ} 0 1 = cc in absurd (omega arith)
-passes zero (Some x ∷ xs) e lt p at = tt
-passes (suc i) (None ∷ xs) e lt p at = p
-passes (suc i) (Some x ∷ xs) e lt p at = passes i xs e (omega arith) p at
+free_first : (n : ℕ) (xs : Slots) → length xs ≤ n → get_or (replicate n None ++ drop n xs) 0 None ≡ None
+free_first zero [] l = refl
+free_first zero (x ∷ xs) l = absurd (omega arith)
+free_first (suc n) xs l = refl
 
-pub pushed : (i : ℕ) (xs : Slots) (e : Entry) → suc i < length xs → Passed i xs → get_or xs i None ≡ None
-    → entries (set (set xs i (Some e)) (suc i) None) ≡ entries xs ++ e ∷ []
-unfolding Passed
-pushed zero [] e lt p at = absurd (omega arith)
-pushed (suc i) [] e lt p at = absurd (omega arith)
-pushed zero (None ∷ []) e lt p at = absurd (omega arith)
-pushed zero (None ∷ y ∷ xs) e lt p at = refl
-pushed zero (Some x ∷ xs) e lt p at = let z : ◌≡◌ {A = ℕ} 0 1 = cc in absurd (omega arith)
-pushed (suc i) (None ∷ xs) e lt p at = absurd p
-pushed (suc i) (Some x ∷ xs) e lt p at = ap (λ q. x ∷ q) (pushed i xs e (omega arith) p at)
+-- the n slots behind it freed
+pub filled : (i n : ℕ) (xs : Slots) (e : Entry) → ((k : ℕ) → k < i → IsSome (get_or xs k None)) → get_or xs i None ≡ None → i + 1 + n ≡ length xs
+    → entries (take (i + 1) (set xs i (Some e)) ++ (replicate n None ++ drop n (drop (i + 1) (set xs i (Some e))))) ≡ entries xs ++ e ∷ []
+filled i n xs e t f l =
+    let ys = set xs i (Some e) in
+    rw add-one (placed i xs _ e t (omega arith) f (free_first n (drop (suc i) ys) (omega (arith, l, length-drop (suc i) ys, length-set xs i (Some e)))))
 
--- into the last slot
-pub pushed_last : (i : ℕ) (xs : Slots) (e : Entry) → suc i ≡ length xs → Passed i xs → get_or xs i None ≡ None
-    → entries (set xs i (Some e)) ≡ entries xs ++ e ∷ []
-unfolding Passed
-pushed_last zero [] e l p at = absurd (omega arith)
-pushed_last (suc i) [] e l p at = absurd (omega arith)
-pushed_last zero (None ∷ []) e l p at = refl
-pushed_last zero (None ∷ y ∷ xs) e l p at = absurd (omega arith)
-pushed_last zero (Some x ∷ xs) e l p at = let z : ◌≡◌ {A = ℕ} 0 1 = cc in absurd (omega arith)
-pushed_last (suc i) (None ∷ xs) e l p at = absurd p
-pushed_last (suc i) (Some x ∷ xs) e l p at = ap (λ q. x ∷ q) (pushed_last i xs e (omega arith) p at)
+-- n slots are taken at most
+pub all_taken : (n : ℕ) (xs : Slots) → ((k : ℕ) → k < n → IsSome (get_or xs k None)) → n ≤ length (entries xs)
+all_taken zero xs t = omega arith
+all_taken (suc n) [] t = absurd (false≢true (t 0 (omega arith)))
+all_taken (suc n) (None ∷ xs) t = absurd (false≢true (t 0 (omega arith)))
+all_taken (suc n) (Some e ∷ xs) t = let h = all_taken n xs (λ k l. t (suc k) (omega arith)) in omega (arith, h)
 
-pub all_taken : (i : ℕ) (xs : Slots) → Passed i xs → i ≤ length (entries xs)
-unfolding Passed
-all_taken zero xs p = omega arith
-all_taken (suc i) [] p = absurd p
-all_taken (suc i) (None ∷ xs) p = absurd p
-all_taken (suc i) (Some e ∷ xs) p = let h = all_taken i xs p in omega (arith, h)
+-- an entry of the station in a slot, with none free before it
+pub found : (k s : ℕ) (xs : Slots) → ((j : ℕ) → j < k → IsSome (get_or xs j None)) → IsSomeAnd (get_or xs k None) (λ e. e.station ≡ s) → queued s (entries xs) ≡ true
+found zero s [] t h = absurd h
+found zero s (None ∷ xs) t h = absurd h
+found zero s (Some e ∷ xs) t h = rw (eq-eqb _ _ h) refl
+found (suc k) s [] t h = absurd (false≢true (t 0 (omega arith)))
+found (suc k) s (None ∷ xs) t h = absurd (false≢true (t 0 (omega arith)))
+found (suc k) s (Some e ∷ xs) t h = or_right _ _ (found k s xs (λ j l. t (suc j) (omega arith)) h)
 
--- a slot by the test of it
-pub free : (x : Option Entry) (b : Bool) → is_some x ≡ not b → b ≡ true → x ≡ None
-free None b e t = refl
-free (Some y) b e t = let z : ◌≡◌ {A = Bool} true false = e ∙ ap not t in let n : ◌≡◌ {A = ℕ} 0 1 = ap (λ c. cond c 0 1) z in absurd (omega arith)
+-- no entry of the station in the slots before a free one
+pub missed : (n s : ℕ) (xs : Slots) → ((k : ℕ) → k < n → IsSomeAnd (get_or xs k None) (λ e. e.station ≢ s)) → get_or xs n None ≡ None → queued s (entries xs) ≡ false
+missed zero s xs t f = rw (none_first xs f) refl
+missed (suc n) s [] t f = refl
+missed (suc n) s (None ∷ xs) t f = refl
+missed (suc n) s (Some e ∷ xs) t f = rw (ne_eqb _ _ (t 0 (omega arith)), missed n s xs (λ k l. t (suc k) (omega arith)) f) refl
 
-pub taken : (x : Option Entry) (b : Bool) → is_some x ≡ not b → b ≡ false → (e : Entry) × (x ≡ Some e)
-taken (Some y) b e t = (y, refl)
-taken None b e t = let z : ◌≡◌ {A = Bool} false true = e ∙ ap not t in let n : ◌≡◌ {A = ℕ} 0 1 = ap (λ c. cond c 1 0) z in absurd (omega arith)
+module _ (xs : Slots) (n s : ℕ) (at : ℕ → Option Entry) (same : (k : ℕ) → k < n → IsSomeAnd (at k) (λ e. get_or xs k None ≡ Some e)) where
+  taken : (k : ℕ) → k < n → IsSome (get_or xs k None)
+  taken k l = go (at k) (same k l)
+    where
+      go : (o : Option Entry) → IsSomeAnd o (λ e. get_or xs k None ≡ Some e) → IsSome (get_or xs k None)
+      go None h = elim h [ ]
+      go (Some e) h = ap is_some h
 
--- a scan at place i: the slots from there on give the answer
-module _ (xs : Slots) (i s : ℕ) (lt : i < length xs) where
-  pub scan_free : get_or xs i None ≡ None → queued s (entries (drop i xs)) ≡ false
-  scan_free e = rw (drop_more xs i None lt, e)
+  of_slot : (P : Entry → Type 0) (k : ℕ) → k < n → IfSome (at k) P → IsSomeAnd (get_or xs k None) P
+  of_slot P k l h = go (at k) (same k l) h
+    where
+      go : (o : Option Entry) → IsSomeAnd o (λ e. get_or xs k None ≡ Some e) → IfSome o P → IsSomeAnd (get_or xs k None) P
+      go None i h = elim i [ ]
+      go (Some e) i h = rw i h
 
-  pub scan_found : (x : Entry) → get_or xs i None ≡ Some x → x.station ≡ s → queued s (entries (drop i xs)) ≡ true
-  scan_found x e f = rw (drop_more xs i None lt, e, eq-eqb _ _ f)
-
-  pub scan_goes : (x : Entry) → get_or xs i None ≡ Some x → (x.station ≡ s → ⊥) → queued s (entries (drop i xs)) ≡ queued s (entries (drop (i + 1) xs))
-  scan_goes x e f = rw (drop_more xs i None lt, e, ne_eqb _ _ f)
+  -- the answer of a search of the entries `at`, which are those of the first n slots, and all where the search was whole
+  pub searched : {X : Type 0} (next : Option X) (r whole : Bool) → (whole ≡ true → MatchOption next (length xs ≤ n) (λ _. get_or xs n None ≡ None))
+      → MatchBool r ((k : ℕ) × (k < n) × IfSome (at k) (λ e. e.station ≡ s)) ((whole ≡ true) × ((k : ℕ) → IfSome (at k) (λ e. e.station ≢ s)))
+      → r ≡ queued s (entries xs)
+  searched next true whole w h = sym (found h.0 s xs (λ j l. taken j (omega (arith, l, h.1))) (of_slot _ h.0 h.1 h.2))
+  searched {X = X} next false whole w h = sym (missed n s xs (λ k l. of_slot _ k l (h.1 k)) (ends next (w h.0)))
+    where
+      ends : (o : Option X) → MatchOption o (length xs ≤ n) (λ _. get_or xs n None ≡ None) → get_or xs n None ≡ None
+      ends None l = get_or_past xs n None l
+      ends (Some x) e = e

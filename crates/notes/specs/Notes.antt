@@ -1,9 +1,9 @@
 -- What a station notes of a page, as plain data.
-use Rattle.std.specs.Prelude.{ℕ, Bool, true, false, List, []}
+use Rattle.std.specs.Prelude.{ℕ, Bool, true, false, List, [], Option, Some, None}
 use Rattle.notes.specs.declared.row.Access.{Access}
 use Rattle.notes.specs.declared.row.Access.TheVariants.{Read, Write}
 use Rattle.notes.specs.declared.row.CopyKind.{CopyKind}
-use Rattle.notes.specs.declared.row.CopyKind.TheVariants.{None as NoCopy, Shared, Exclusive}
+use Rattle.notes.specs.declared.row.CopyKind.TheVariants.{Shared, Exclusive}
 use Rattle.notes.specs.declared.row.Standing.{Standing}
 use Rattle.notes.specs.declared.row.Standing.TheVariants.{Idle, Waiting, Open}
 use Rattle.notes.specs.declared.row.Mode.{Mode}
@@ -21,18 +21,18 @@ abbrev pub home_notes : Mode → ℕ → ℕ → List Entry → HomeNotes
 home_notes m h a q = record { mode = m; holders = h; awaited = a; queue = q }
 
 pub record Notes : Type 0 where
-  pub copy : CopyKind
+  pub copy : Option CopyKind
   pub changed : Bool
   pub recall : Bool
   pub standing : Standing
   pub home : HomeNotes
 
-abbrev pub notes : CopyKind → Bool → Bool → Standing → HomeNotes → Notes
+abbrev pub notes : Option CopyKind → Bool → Bool → Standing → HomeNotes → Notes
 notes c g r s h = record { copy = c; changed = g; recall = r; standing = s; home = h }
 
 -- after set-up
 abbrev pub blank : Notes
-blank = notes NoCopy false false Idle (home_notes Own 0 0 [])
+blank = notes None false false Idle (home_notes Own 0 0 [])
 
 abbrev pub is_idle : Standing → Bool
 is_idle Idle = true
@@ -59,12 +59,11 @@ is_writing Idle = false
 is_writing (Waiting _) = false
 is_writing (Open a) = is_write a
 
-abbrev pub is_none : CopyKind → Bool
-is_none NoCopy = true
-is_none Shared = false
-is_none Exclusive = false
+abbrev pub is_none : Option CopyKind → Bool
+is_none None = true
+is_none (Some _) = false
 
-abbrev pub is_exclusive : CopyKind → Bool
-is_exclusive NoCopy = false
-is_exclusive Shared = false
-is_exclusive Exclusive = true
+abbrev pub is_exclusive : Option CopyKind → Bool
+is_exclusive None = false
+is_exclusive (Some Shared) = false
+is_exclusive (Some Exclusive) = true

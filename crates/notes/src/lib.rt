@@ -7,4 +7,4 @@ mod set;
 
 pub use queue::{Entry, Queue};
 pub use row::{Access, CopyKind, Desk, Mode, Row, Standing};
-pub use set::StationSet;
+pub use set::{Members, StationSet};

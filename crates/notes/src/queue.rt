@@ -5,31 +5,19 @@ ghost use Rattle.notes.specs.Queues.{entries, oldest, queued};
 use crate::row::Access;
 
 /// A station that wants a page.
-#[derive(Clone, Copy)]
+#[derive(Clone, Copy, Debug, PartialEq, Eq)]
 pub struct Entry {
     pub station: u8,
     pub access: Access,
 }
 
-/// At most eight entries, oldest first: the slots up to the first free one, which ends them.
-#[derive(Clone, Copy)]
+/// At most eight entries, oldest first: the slots up to the first free one, which ends them. `==` compares the slots.
+// Eight slots and no count: every value is then a queue, and no fact has to be kept in the rows' arrays.
+// Not an `impl Model` as the list of its entries: any eight slots are a queue, so the entries do not give the slots
+// back, as a model of a `Copy` type has to; an invariant that they do would ask more of whoever writes the slots.
+#[derive(Clone, Copy, Debug, PartialEq, Eq)]
 pub struct Queue {
     pub slots: [Option<Entry>; 8],
-}
-
-/// Whether the station has an entry in the slots up to the first free one.
-fn is_among(station: u8, slots: &[Option<Entry>]) -> bool
-    ensures { result ≡ queued station (entries slots.now) }
-{
-    for slot in slots {
-        let Some(entry) = *slot else {
-            return false;
-        };
-        if entry.station == station {
-            return true;
-        }
-    }
-    false
 }
 
 impl Queue {
@@ -48,6 +36,7 @@ impl Queue {
     }
 
     /// Takes the oldest entry out.
+    #[tactic(auto, using(crate::proofs::Slots::popped))]
     pub fn pop(&mut self)
         requires { 0 < length (entries self.old.slots) }
         ensures { entries self.new.slots ≡ drop 1 (entries self.old.slots) }
@@ -61,14 +50,9 @@ impl Queue {
         requires { length (entries self.old.slots) < 8 }
         ensures { entries self.new.slots ≡ entries self.old.slots ++ (entry ∷ []) }
     {
-        for i in 0..8 {
-            if self.slots[i].is_none() {
-                self.slots[i] = Some(entry);
-                if i < 7 {
-                    self.slots[i + 1] = None;
-                }
-                return;
-            }
+        if let Some(place) = self.slots.iter().position(Option::is_none) {
+            self.slots[place] = Some(entry);
+            self.slots[place + 1..].fill(None);
         }
     }
 
@@ -76,6 +60,9 @@ impl Queue {
     pub fn has(&self, station: u8) -> bool
         ensures { result ≡ queued station (entries self.now.slots) }
     {
-        is_among(station, &self.slots)
+        self.slots
+            .iter()
+            .map_while(|slot| *slot)
+            .any(|entry| entry.station == station)
     }
 }

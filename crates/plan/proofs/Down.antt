@@ -1,126 +1,96 @@
 -- A plan that was read, written down again.
-use Rattle.std.proofs.Common.{◌≡◌, ℕ, zero, suc, ◌+◌, ◌<◌, ◌≤◌, Bool, true, false, cond, ltb, leb, List, [], ◌∷◌, ◌++◌, length, get_or, take, drop, is_ok, Ok, Err, Result, sym, refl, ap, ◌∙◌, subst, ⊎_elim, append_assoc, append-nil, arith}
-use Rattle.std.proofs.lemmas.List.{drop_more, drop_all, drop-drop, take-append-drop, length-take-le, length-drop}
-use Rattle.std.proofs.lemmas.Bool.{cond-true, cases_Bool, ltb-true, ltb-false, leb-true}
-use Rattle.std.specs.Result.{result_unwrap_or}
+use Rattle.std.proofs.Common.{◌≡◌, ℕ, zero, suc, ◌+◌, Bool, List, [], ◌∷◌, ◌++◌, length, drop, Ok, Err, Result, refl, ap, append_assoc, append-nil, nat_lt, arith}
+use Rattle.std.proofs.lemmas.Grind.{common_steps}
+use Rattle.std.proofs.lemmas.List.{drop_more, drop_all, drop-drop, take-append-drop, length-take-le, length-drop, length_push, flat_map_more}
 use Rattle.line.specs.declared.refusal.Refusal.{Refusal}
-use Rattle.plan.specs.Plans.{Sheet, sheet, layout, then, byte_at, passing, between, new_letter, text_at, letters_at, sheet_at, sheets_at, end_at, ended, paged, planned, sheet_down, sheets_down, down, WritesDown}
+use Rattle.plan.specs.Plans.{Sheet, sheet, layout, and_then, passing, between, new_letter, text_at, letters_at, sheet_at, sheets_at, end_at, planned, sheet_down, sheets_down, down, WritesDown}
 
-refuses : {A : Type 0} (e : Refusal) (y : A) → ◌≡◌ {A = Result A Refusal} (Err e) (Ok y) → ⊥
-refuses {A} e y q = let z : ◌≡◌ {A = ℕ} 0 1 = ap (λ (a : Result A Refusal). cond (is_ok a) 1 0) q in omega arith
+-- what was answered after a part that was read
+went_on : {A B : Type 0} (a : Result A Refusal) (f : A → Result B Refusal) (y : B) → and_then a f ≡ Ok y → (x : A) × (a ≡ Ok x) × (f x ≡ Ok y)
+went_on (Ok x) f y q = (x, refl, q)
+went_on (Err e) f y q = cc
 
-same : {A : Type 0} (x y : A) → ◌≡◌ {A = Result A Refusal} (Ok x) (Ok y) → x ≡ y
-same {A} x y q = ap (λ (a : Result A Refusal). result_unwrap_or a x) q
+-- the byte that passed is the next one
+passed : (t : ℕ → Bool) (bs : List ℕ) (i b : ℕ) → passing t bs i ≡ Ok b → drop i bs ≡ b ∷ drop (i + 1) bs
+passed t bs i b q = grind (arith, common_steps, drop_more {X = ℕ})
 
--- an answer that went on
-then_ok : {A B : Type 0} (a : Result A Refusal) (f : A → Result B Refusal) (y : B) → then a f ≡ Ok y → (x : A) × (a ≡ Ok x) × (f x ≡ Ok y)
-then_ok (Ok x) f y q = (x, refl, q)
-then_ok (Err e) f y q = absurd (refuses e y q)
+-- a text that was read stands there
+texted : (bs : List ℕ) (i l : ℕ) (t : List ℕ) → text_at bs i l ≡ Ok t → (drop i bs ≡ t ++ drop (i + l) bs) × (length t ≡ l)
+texted bs i l t q =
+    let split = take-append-drop l (drop i bs) in
+    let rest = drop-drop l i bs in
+    (grind (arith, common_steps), grind (arith, common_steps, length-take-le {A = ℕ}, length-drop {A = ℕ}))
 
-cond_ok : {A : Type 0} (t : Bool) (x : A) (e : Refusal) (y : A) → ◌≡◌ {A = Result A Refusal} (cond t (Ok x) (Err e)) (Ok y) → (t ≡ true) × (x ≡ y)
-cond_ok true x e y q = (refl, same x y q)
-cond_ok false x e y q = absurd (refuses e y q)
+-- and nothing stands after the last one
+ended_there : (bs : List ℕ) (i : ℕ) → end_at bs i ≡ Ok tt → drop i bs ≡ []
+ended_there bs i q = grind (arith, common_steps, drop_all {X = ℕ})
 
-passing_ok : (t : ℕ → Bool) (bs : List ℕ) (i b : ℕ) → passing t bs i ≡ Ok b → drop i bs ≡ b ∷ drop (i + 1) bs
-passing_ok t bs i b q =
-    let w = then_ok (byte_at bs i) (λ z. cond (t z) (Ok z) (Err _)) b q in
-    let u = cond_ok (ltb i (length bs)) (get_or bs i 0) _ w.0 w.1 in
-    let v = cond_ok (t w.0) w.0 _ b w.2 in
-    drop_more bs i 0 (ltb-true _ _ u.0) ∙ ap (λ (z : ℕ). z ∷ drop (i + 1) bs) (u.1 ∙ v.1)
-
-passing_in : (t : ℕ → Bool) (bs : List ℕ) (i b : ℕ) → passing t bs i ≡ Ok b → i < length bs
-passing_in t bs i b q =
-    let w = then_ok (byte_at bs i) (λ z. cond (t z) (Ok z) (Err _)) b q in
-    ltb-true _ _ (cond_ok (ltb i (length bs)) (get_or bs i 0) _ w.0 w.1).0
-
--- the letters that were read, and the bytes after them
-pub record Lettered (bs : List ℕ) (i n : ℕ) (seen ls : List ℕ) : Type 0 where
-  pub fresh : List ℕ
-  pub all : ls ≡ seen ++ fresh
-  pub many : length fresh ≡ n
-  pub bytes : drop i bs ≡ fresh ++ drop (i + n) bs
-
-letters_down : (n : ℕ) (bs : List ℕ) (i : ℕ) (seen ls : List ℕ) → letters_at n bs i seen ≡ Ok ls → Lettered bs i n seen ls
+-- so many letters more were read, and they stand there
+lettered : (n : ℕ) (bs : List ℕ) (i : ℕ) (seen ls : List ℕ) → letters_at n bs i seen ≡ Ok ls
+    → (seen ++ drop i bs ≡ ls ++ drop (i + n) bs) × (length ls ≡ length seen + n)
 unfolding letters_at
-letters_down zero bs i seen ls q =
-    let e : i ≡ i + 0 = omega arith in
-    record { fresh = []; all = sym (same seen ls q) ∙ sym (append-nil seen); many = refl; bytes = ap (λ (j : ℕ). drop j bs) e }
-letters_down (suc n) bs i seen ls q =
-    let w = then_ok (passing (new_letter seen) bs i) (λ z. letters_at n bs (i + 1) (seen ++ z ∷ [])) ls q in
-    let h = letters_down n bs (i + 1) (seen ++ w.0 ∷ []) ls w.2 in
-    let e : i + 1 + n ≡ i + suc n = omega arith in
-    record {
-      fresh = w.0 ∷ h.fresh;
-      all = h.all ∙ append_assoc seen (w.0 ∷ []) h.fresh;
-      many = ap suc h.many;
-      bytes = passing_ok (new_letter seen) bs i w.0 w.1 ∙ ap (λ (z : List ℕ). w.0 ∷ z) h.bytes
-          ∙ ap (λ (j : ℕ). w.0 ∷ (h.fresh ++ drop j bs)) e;
-    }
+lettered zero bs i seen ls q =
+    let none : i + 0 ≡ i = omega arith in
+    let all : seen ≡ ls = cc in
+    (cc, omega (arith, ap length all))
+lettered (suc n) bs i seen ls q =
+    let w = went_on (passing (new_letter seen) bs i) _ ls q in
+    let h = lettered n bs (i + 1) (seen ++ w.0 ∷ []) ls w.2 in
+    let more : i + 1 + n ≡ i + suc n = omega arith in
+    let there = passed (new_letter seen) bs i w.0 w.1 in
+    let joined = append_assoc seen (w.0 ∷ []) (drop (i + 1) bs) in
+    (cc, omega (arith, h.1, length_push seen w.0))
 
--- the page that was read, and the bytes after it
-sheet_down_lem : (n : ℕ) (bs : List ℕ) (i : ℕ) (q : Sheet × ℕ) → sheet_at n bs i ≡ Ok q → drop i bs ≡ sheet_down q.0 ++ drop q.1 bs
+-- a page was read, and it stands there
+sheeted : (n : ℕ) (bs : List ℕ) (i : ℕ) (q : Sheet × ℕ) → sheet_at n bs i ≡ Ok q → drop i bs ≡ sheet_down q.0 ++ drop q.1 bs
 unfolding sheet_at
-sheet_down_lem n bs i q e =
-    let w = then_ok (passing (λ b. ltb b n) bs i) _ q e in
-    let u = then_ok (passing (between 1 64) bs (i + 1)) _ q w.2 in
-    let v = then_ok (text_at bs (i + 2) u.0) (λ t. Ok (sheet w.0 t, i + 2 + u.0)) q u.2 in
-    let t = cond_ok (leb (i + 2 + u.0) (length bs)) (take u.0 (drop (i + 2) bs)) _ v.0 v.1 in
+sheeted n bs i q e =
+    let w = went_on (passing (λ b. nat_lt b n) bs i) _ q e in
+    let u = went_on (passing (between 1 64) bs (i + 1)) _ q w.2 in
+    let v = went_on (text_at bs (i + 2) u.0) _ q u.2 in
+    let all : (sheet w.0 v.0, i + 2 + u.0) ≡ q = cc in
     let two : i + 1 + 1 ≡ i + 2 = omega arith in
-    let s : (sheet w.0 v.0, i + 2 + u.0) ≡ q = same _ _ v.2 in
-    let fits : i + 2 + u.0 ≤ length bs = leb-true _ _ t.0 in
-    let long : length (take u.0 (drop (i + 2) bs)) ≡ u.0 =
-    length-take-le u.0 (drop (i + 2) bs) (rw (length-drop (i + 2) bs) (omega arith)) in
-    let text : drop (i + 2) bs ≡ v.0 ++ drop (i + 2 + u.0) bs =
-    sym (take-append-drop u.0 (drop (i + 2) bs)) ∙ (λ k. t.1 k ++ drop-drop u.0 (i + 2) bs k) in
-    let len : length v.0 ≡ u.0 = ap length (sym t.1) ∙ long in
-    subst (λ (z : Sheet × ℕ). drop i bs ≡ sheet_down z.0 ++ drop z.1 bs) s
-    (passing_ok _ bs i w.0 w.1 ∙ ap (λ (z : List ℕ). w.0 ∷ z)
-    (passing_ok _ bs (i + 1) u.0 u.1 ∙ ap (λ (j : ℕ). u.0 ∷ drop j bs) two ∙ (λ k. sym len k ∷ text k)))
+    let home = passed _ bs i w.0 w.1 in
+    let size = passed _ bs (i + 1) u.0 u.1 in
+    let text = texted bs (i + 2) u.0 v.0 v.1 in
+    rw (← all) cc
 
-pub record Paged (bs : List ℕ) (i p : ℕ) (gs : List Sheet) (q : List Sheet × ℕ) : Type 0 where
-  pub fresh : List Sheet
-  pub all : q.0 ≡ gs ++ fresh
-  pub many : length fresh ≡ p
-  pub bytes : drop i bs ≡ sheets_down fresh ++ drop q.1 bs
+-- so many pages more were read, and they stand there
+paged_down : (p n : ℕ) (bs : List ℕ) (i : ℕ) (gs : List Sheet) (q : List Sheet × ℕ) → sheets_at p n bs i gs ≡ Ok q
+    → (sheets_down gs ++ drop i bs ≡ sheets_down q.0 ++ drop q.1 bs) × (length q.0 ≡ length gs + p)
+unfolding sheets_at
+paged_down zero n bs i gs q e =
+    let all : (gs, i) ≡ q = cc in
+    (cc, omega (arith, ap (λ (z : List Sheet × ℕ). length z.0) all))
+paged_down (suc p) n bs i gs q e =
+    let w = went_on (sheet_at n bs i) _ q e in
+    let g = w.0.0 in
+    let h = paged_down p n bs w.0.1 (gs ++ g ∷ []) q w.2 in
+    let there = sheeted n bs i w.0 w.1 in
+    let more = flat_map_more sheet_down [] gs g in
+    let joined = append_assoc (sheets_down gs) (sheet_down g) (drop w.0.1 bs) in
+    (cc, omega (arith, h.1, length_push gs g))
 
-sheets_down_lem : (p n : ℕ) (bs : List ℕ) (i : ℕ) (gs : List Sheet) (q : List Sheet × ℕ) → sheets_at p n bs i gs ≡ Ok q → Paged bs i p gs q
-unfolding sheets_at sheets_down
-sheets_down_lem zero n bs i gs q e =
-    let s = same (gs, i) q e in
-    record { fresh = []; all = ap (λ (z : List Sheet × ℕ). z.0) (sym s) ∙ sym (append-nil gs); many = refl; bytes = ap (λ (z : List Sheet × ℕ). drop z.1 bs) s }
-sheets_down_lem (suc p) n bs i gs q e =
-    let w = then_ok (sheet_at n bs i) (λ z. sheets_at p n bs z.1 (gs ++ z.0 ∷ [])) q e in
-    let h = sheets_down_lem p n bs w.0.1 (gs ++ w.0.0 ∷ []) q w.2 in
-    record {
-      fresh = w.0.0 ∷ h.fresh;
-      all = h.all ∙ append_assoc gs (w.0.0 ∷ []) h.fresh;
-      many = ap suc h.many;
-      bytes = sheet_down_lem n bs i w.0 w.1 ∙ ap (λ (z : List ℕ). sheet_down w.0.0 ++ z) h.bytes
-          ∙ sym (append_assoc (sheet_down w.0.0) (sheets_down h.fresh) (drop q.1 bs));
-    }
+-- the parts one after another are the plan's bytes
+joined : (bs : List ℕ) (n p j : ℕ) (ls : List ℕ) (gs : List Sheet) → bs ≡ n ∷ drop 1 bs
+    → (drop 1 bs ≡ ls ++ drop (1 + n) bs) × (length ls ≡ 0 + n) → drop (1 + n) bs ≡ p ∷ drop (1 + n + 1) bs
+    → (drop (2 + n) bs ≡ sheets_down gs ++ drop j bs) × (length gs ≡ 0 + p) → drop j bs ≡ [] → down (layout ls gs) ≡ bs
+joined bs n p j ls gs stations letters pages sheets last =
+    let two : 1 + n + 1 ≡ 2 + n = omega arith in
+    let many : length ls ≡ n = omega (arith, letters.1) in
+    let more : length gs ≡ p = omega (arith, sheets.1) in
+    let none = append-nil (sheets_down gs) in
+    cc
 
 pub writes_down : WritesDown
 unfolding planned
 writes_down bs lay e =
-    let w = then_ok (passing (between 1 8) bs 0) (λ n. then (letters_at n bs 1 []) (paged bs n)) lay e in
+    let w = went_on (passing (between 1 8) bs 0) _ lay e in
     let n = w.0 in
-    let u = then_ok (letters_at n bs 1 []) (paged bs n) lay w.2 in
-    let ls = u.0 in
-    let h = letters_down n bs 1 [] ls u.1 in
-    let v = then_ok (passing (between 1 16) bs (1 + n)) (λ p. then (sheets_at p n bs (2 + n) []) (ended bs ls)) lay u.2 in
-    let x = then_ok (sheets_at v.0 n bs (2 + n) []) (ended bs ls) lay v.2 in
-    let g = sheets_down_lem v.0 n bs (2 + n) [] x.0 x.1 in
-    let y = then_ok (end_at bs x.0.1) (λ _. Ok (layout ls x.0.0)) lay x.2 in
-    let s : layout ls x.0.0 ≡ lay = same _ _ y.2 in
-    let over : length bs ≤ x.0.1 = ⊎_elim
-    (λ (t : ltb x.0.1 (length bs) ≡ true). absurd (refuses _ tt (sym (cond-true (ltb x.0.1 (length bs)) _ _ t) ∙ y.1)))
-    (λ (t : ltb x.0.1 (length bs) ≡ false). ltb-false _ _ t) (cases_Bool (ltb x.0.1 (length bs))) in
-    let last : drop (2 + n) bs ≡ sheets_down x.0.0 =
-    g.bytes ∙ ap (λ (z : List ℕ). sheets_down g.fresh ++ z) (drop_all x.0.1 bs over) ∙ append-nil _ ∙ ap sheets_down (sym g.all) in
-    let two : 1 + n + 1 ≡ 2 + n = omega arith in
-    let many : v.0 ≡ length x.0.0 = sym g.many ∙ ap length (sym g.all) in
-    let rest : drop (1 + n) bs ≡ length x.0.0 ∷ sheets_down x.0.0 =
-    passing_ok _ bs (1 + n) v.0 v.1 ∙ (λ k. many k ∷ (ap (λ (j : ℕ). drop j bs) two ∙ last) k) in
-    let all : n ≡ length ls = sym h.many ∙ ap length (sym h.all) in
-    sym (passing_ok _ bs 0 n w.1 ∙ (λ k. all k ∷ (h.bytes ∙ (λ m. sym h.all m ++ rest m)) k)
-    ∙ ap down s)
+    let u = went_on (letters_at n bs 1 []) _ lay w.2 in
+    let v = went_on (passing (between 1 16) bs (1 + n)) _ lay u.2 in
+    let x = went_on (sheets_at v.0 n bs (2 + n) []) _ lay v.2 in
+    let y = went_on (end_at bs x.0.1) _ lay x.2 in
+    let all : layout u.0 x.0.0 ≡ lay = cc y.2 in
+    rw (← all) (joined bs n v.0 x.0.1 u.0 x.0.0 (passed _ bs 0 n w.1) (lettered n bs 1 [] u.0 u.1)
+    (passed _ bs (1 + n) v.0 v.1) (paged_down v.0 n bs (2 + n) [] x.0 x.1) (ended_there bs x.0.1 y.1))

@@ -1,6 +1,2 @@
-pub mod Lists
-pub mod Sheets
-pub mod Letters
-pub mod Pages
-pub mod Whole
+pub mod OneMore
 pub mod Down

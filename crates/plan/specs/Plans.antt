@@ -1,5 +1,6 @@
 -- What a plan is, and the reading of its bytes from left to right.
-use Rattle.std.specs.Prelude.{◌≡◌, ℕ, zero, suc, ◌+◌, Bool, false, cond, not, ◌&&◌, ◌||◌, ltb, List, [], ◌∷◌, ◌++◌, length, take, drop, Ok, Err, Result, ◌==◌, nat_le, nat_lt, slice_index}
+use Rattle.std.specs.Prelude.{◌≡◌, ℕ, zero, suc, ◌+◌, Bool, if◌then◌else◌, not, ◌&&◌, List, [], ◌∷◌, ◌++◌, length, take, drop, Ok, Err, Result, ◌==◌, nat_le, nat_lt, slice_index}
+use Rattle.std.specs.List.{list_any, flat_map}
 use Rattle.line.specs.declared.refusal.Refusal.{Refusal}
 use Rattle.plan.specs.Refusals.{short, value, long}
 
@@ -20,17 +21,17 @@ abbrev pub layout : List ℕ → List Sheet → Layout
 layout ls gs = record { letters = ls; sheets = gs }
 
 -- what comes after an answer, unless it is a refusal
-abbrev pub then : {A B : Type 0} → Result A Refusal → (A → Result B Refusal) → Result B Refusal
-then (Ok a) next = next a
-then (Err e) next = Err e
+abbrev pub and_then : {A B : Type 0} → Result A Refusal → (A → Result B Refusal) → Result B Refusal
+and_then (Ok a) next = next a
+and_then (Err e) next = Err e
 
 -- the byte at place i, or SHORT at the first missing byte
 abbrev pub byte_at : List ℕ → ℕ → Result ℕ Refusal
-byte_at bs i = cond (nat_lt i (length bs)) (Ok (slice_index bs i)) (Err (short (length bs)))
+byte_at bs i = if nat_lt i (length bs) then Ok (slice_index bs i) else Err (short (length bs))
 
 -- the byte at place i, or VALUE there unless it passes
 abbrev pub passing : (ℕ → Bool) → List ℕ → ℕ → Result ℕ Refusal
-passing test bs i = then (byte_at bs i) (λ b. cond (test b) (Ok b) (Err (value i)))
+passing test bs i = and_then (byte_at bs i) (λ b. if test b then Ok b else Err (value i))
 
 -- from low to high
 abbrev pub between : ℕ → ℕ → ℕ → Bool
@@ -38,8 +39,7 @@ between low high b = nat_le low b && nat_le b high
 
 -- whether b stands in the list
 abbrev pub has : List ℕ → ℕ → Bool
-has [] b = false
-has (x ∷ xs) b = x == b || has xs b
+has xs b = list_any (λ x. x == b) xs
 
 -- a letter, A to Z, that is not among these
 abbrev pub new_letter : List ℕ → ℕ → Bool
@@ -48,45 +48,44 @@ new_letter seen b = between 65 90 b && not (has seen b)
 -- n letters from place i on, after those already seen
 unfoldable pub letters_at : ℕ → List ℕ → ℕ → List ℕ → Result (List ℕ) Refusal
 letters_at zero bs i seen = Ok seen
-letters_at (suc n) bs i seen = then (passing (new_letter seen) bs i) (λ b. letters_at n bs (i + 1) (seen ++ b ∷ []))
+letters_at (suc n) bs i seen = and_then (passing (new_letter seen) bs i) (λ b. letters_at n bs (i + 1) (seen ++ b ∷ []))
 
 -- the text of l bytes from place i on, or SHORT at the first missing byte
 abbrev pub text_at : List ℕ → ℕ → ℕ → Result (List ℕ) Refusal
-text_at bs i l = cond (nat_le (i + l) (length bs)) (Ok (take l (drop i bs))) (Err (short (length bs)))
+text_at bs i l = if nat_le (i + l) (length bs) then Ok (take l (drop i bs)) else Err (short (length bs))
 
 -- a page of a house with n stations, from place i on, and the place after it
 unfoldable pub sheet_at : ℕ → List ℕ → ℕ → Result (Sheet × ℕ) Refusal
 sheet_at n bs i =
-    then (passing (λ b. ltb b n) bs i)
-    (λ h. then (passing (between 1 64) bs (i + 1)) (λ l. then (text_at bs (i + 2) l) (λ t. Ok (sheet h t, i + 2 + l))))
+    and_then (passing (λ b. nat_lt b n) bs i)
+    (λ h. and_then (passing (between 1 64) bs (i + 1)) (λ l. and_then (text_at bs (i + 2) l) (λ t. Ok (sheet h t, i + 2 + l))))
 
 -- p pages from place i on, after those already read, and the place after them
 unfoldable pub sheets_at : ℕ → ℕ → List ℕ → ℕ → List Sheet → Result (List Sheet × ℕ) Refusal
 sheets_at zero n bs i gs = Ok (gs, i)
-sheets_at (suc p) n bs i gs = then (sheet_at n bs i) (λ q. sheets_at p n bs q.1 (gs ++ q.0 ∷ []))
+sheets_at (suc p) n bs i gs = and_then (sheet_at n bs i) (λ q. sheets_at p n bs q.1 (gs ++ q.0 ∷ []))
 
 -- nothing is left over, or LONG at the first byte that is
 abbrev pub end_at : List ℕ → ℕ → Result (Unit {0}) Refusal
-end_at bs i = cond (nat_lt i (length bs)) (Err (long i)) (Ok tt)
+end_at bs i = if nat_lt i (length bs) then Err (long i) else Ok tt
 
 abbrev pub ended : List ℕ → List ℕ → List Sheet × ℕ → Result Layout Refusal
-ended bs ls q = then (end_at bs q.1) (λ _. Ok (layout ls q.0))
+ended bs ls q = and_then (end_at bs q.1) (λ _. Ok (layout ls q.0))
 
 -- after the letters: the pages
 abbrev pub paged : List ℕ → ℕ → List ℕ → Result Layout Refusal
-paged bs n ls = then (passing (between 1 16) bs (1 + n)) (λ p. then (sheets_at p n bs (2 + n) []) (ended bs ls))
+paged bs n ls = and_then (passing (between 1 16) bs (1 + n)) (λ p. and_then (sheets_at p n bs (2 + n) []) (ended bs ls))
 
 -- The plan that the bytes are, or the leftmost fault.
 unfoldable pub planned : List ℕ → Result Layout Refusal
-planned bs = then (passing (between 1 8) bs 0) (λ n. then (letters_at n bs 1 []) (paged bs n))
+planned bs = and_then (passing (between 1 8) bs 0) (λ n. and_then (letters_at n bs 1 []) (paged bs n))
 
 -- The bytes of a plan: its parts, written down from left to right.
 abbrev pub sheet_down : Sheet → List ℕ
 sheet_down g = g.home ∷ length g.text ∷ g.text
 
-unfoldable pub sheets_down : List Sheet → List ℕ
-sheets_down [] = []
-sheets_down (g ∷ gs) = sheet_down g ++ sheets_down gs
+abbrev pub sheets_down : List Sheet → List ℕ
+sheets_down gs = flat_map sheet_down gs
 
 abbrev pub down : Layout → List ℕ
 down p = length p.letters ∷ p.letters ++ (length p.sheets ∷ sheets_down p.sheets)

@@ -1,5 +1,6 @@
 -- What the faults of a plan tell: each with its layer, its number, its name and its place.
-use Rattle.std.specs.Prelude.{ℕ, List, codes}
+use Rattle.std.specs.Prelude.{ℕ, List, Result, codes}
+use Rattle.std.specs.Result.{result_map_both}
 use Rattle.line.specs.declared.refusal.Layer.TheVariants.{Plan}
 use Rattle.line.specs.declared.refusal.Place.TheVariants.{Offset}
 use Rattle.line.specs.declared.refusal.Refusal.{Refusal}
@@ -28,3 +29,7 @@ abbrev pub title : PlanFault → List ℕ
 title (Short at) = codes "SHORT"
 title (Value at) = codes "VALUE"
 title (Long at) = codes "LONG"
+
+-- an answer, with its fault as it is told
+abbrev pub as_told : {A : Type 0} → Result A PlanFault → Result A Refusal
+as_told answer = result_map_both (λ a. a) told answer

@@ -1,11 +1,13 @@
 // Why a plan is not read.
-ghost use Rattle.std.specs.Prelude.{◌≡◌};
+ghost use Rattle.std.specs.Prelude.{◌≡◌, Some};
 ghost use Rattle.plan.specs.Refusals.{told, title};
 
 use line::{Layer, Place, Refusal};
+use std::error::Error;
+use std::fmt;
 
 /// Why a plan is not read, with the offset of the byte at fault.
-#[derive(Clone, Copy, Debug)]
+#[derive(Clone, Copy, Debug, PartialEq, Eq)]
 pub enum PlanFault {
     /// This byte is missing.
     Short(usize),
@@ -15,12 +17,12 @@ pub enum PlanFault {
     Long(usize),
 }
 
-impl PlanFault {
-    /// The layer, the number and the place of the refusal.
-    pub fn refusal(self) -> Refusal
-        ensures { result ≡ told self }
-    {
-        let (number, at) = match self {
+/// The layer, the number and the place of the refusal.
+impl From<PlanFault> for Refusal {
+    ghost from_gives = { λ x y. y ≡ told x };
+
+    fn from(fault: PlanFault) -> Refusal {
+        let (number, at) = match fault {
             PlanFault::Short(at) => (1, at),
             PlanFault::Value(at) => (2, at),
             PlanFault::Long(at) => (3, at),
@@ -31,7 +33,9 @@ impl PlanFault {
             place: Place::Offset(at),
         }
     }
+}
 
+impl PlanFault {
     /// The refusal's name.
     pub fn name(self) -> &'static str
         ensures { result.now ≡ title self }
@@ -43,3 +47,13 @@ impl PlanFault {
         }
     }
 }
+
+impl fmt::Display for PlanFault {
+    ghost output = { λ x. Some (title x) };
+
+    fn fmt<W: fmt::Write>(&self, f: &mut fmt::Formatter<W>) -> fmt::Result {
+        f.write_str(self.name())
+    }
+}
+
+impl Error for PlanFault {}

@@ -2,6 +2,7 @@
 #![tactic(auto)]
 
 mod fault;
+mod list;
 mod plan;
 mod read;
 mod reader;
@@ -9,5 +10,6 @@ mod reader;
 mod tests;
 
 pub use fault::PlanFault;
+pub use list::FixedList;
 pub use plan::{Page, Plan};
 pub use read::read_plan;

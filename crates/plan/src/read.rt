@@ -1,46 +1,54 @@
 // Reading a whole plan.
-ghost use Rattle.std.specs.Prelude.{◌≡◌, ◌+◌, ◌≤◌, [], map, length, take, IfOk, OnOk};
+ghost use Rattle.std.specs.Prelude.{◌≡◌, ◌+◌, ◌≤◌, [], Ok, IfOk};
 ghost use Rattle.std.specs.Result.{result_map_both};
 ghost use Rattle.plan.specs.Refusals.{told};
-ghost use Rattle.plan.specs.Plans.{letters_at, sheets_at, planned, down};
-ghost use Rattle.plan.specs.View.{sheet_of, layout_of};
+ghost use Rattle.plan.specs.Plans.{and_then, letters_at, sheets_at, planned, down};
+ghost use Rattle.plan.specs.Reading.{reads_on};
+ghost use Rattle.plan.specs.View.{listed, sheets_of, layout_of};
 
 use crate::fault::PlanFault;
+use crate::list::FixedList;
 use crate::plan::{Page, Plan};
 use crate::reader::Reader;
 
 /// The letters of so many stations.
-fn read_letters(reader: &mut Reader, stations: u8) -> Result<[u8; 8], PlanFault>
+// Not one function with `read_pages` and a closure: a letter depends on those before it and a page does not, so the clause
+// would have to follow the closure from state to state.
+#[tactic(auto, using(crate::proofs::OneMore::letter_turns))]
+fn read_letters(reader: &mut Reader, stations: u8) -> Result<FixedList<u8, 8>, PlanFault>
     requires { stations ≤ 8 }
-    ensures value { result_map_both (take stations) told result ≡ letters_at stations reader.old.bytes.now reader.old.offset [] }
-    ensures moved { OnOk result (reader.new.offset ≡ reader.old.offset + stations) }
-    ensures same { reader.new.bytes.now ≡ reader.old.bytes.now }
+    ensures { (result_map_both (λ ls. (listed ls, reader.new.offset)) told result, reader.new.bytes)
+        ≡ reads_on (λ bs i. and_then (letters_at stations bs i []) (λ ls. Ok (ls, i + stations))) reader.old }
 {
-    let mut letters = [0; 8];
-    for i in 0..stations as usize {
-        letters[i] = reader.letter(&letters[0..i])?;
+    let mut letters = FixedList::new();
+    for _ in 0..stations {
+        let letter = reader.letter(letters.as_slice())?;
+        letters.push(letter);
     }
     Ok(letters)
 }
 
 /// So many pages of a house of so many stations.
-fn read_pages(reader: &mut Reader, stations: u8, pages: u8) -> Result<[Page; 16], PlanFault>
-    requires { pages ≤ 16 }
-    ensures value { result_map_both (λ gs. (map (sheet_of reader.old.bytes.now) (take pages gs), reader.new.offset)) told result ≡ sheets_at pages stations reader.old.bytes.now reader.old.offset [] }
-    ensures same { reader.new.bytes.now ≡ reader.old.bytes.now }
+#[tactic(auto, using(crate::proofs::OneMore::page_turns))]
+fn read_pages(
+    reader: &mut Reader,
+    stations: u8,
+    count: u8,
+) -> Result<FixedList<Page, 16>, PlanFault>
+    requires { count ≤ 16 }
+    ensures { (result_map_both (λ gs. (sheets_of reader.old.bytes gs, reader.new.offset)) told result, reader.new.bytes)
+        ≡ reads_on (λ bs i. sheets_at count stations bs i []) reader.old }
 {
-    let mut page = [Page {
-        home: 0,
-        length: 0,
-        text: 0,
-    }; 16];
-    for i in 0..pages as usize {
-        page[i] = reader.page(stations)?;
+    let mut pages = FixedList::new();
+    for _ in 0..count {
+        let page = reader.page(stations)?;
+        pages.push(page);
     }
-    Ok(page)
+    Ok(pages)
 }
 
 /// The plan that the bytes are, or the leftmost fault.
+#[tactic(auto, unfolding(crate::specs::Plans::planned))]
 pub fn read_plan(bytes: &[u8]) -> Result<Plan, PlanFault>
     ensures exact { result_map_both (layout_of bytes.now) told result ≡ planned bytes.now }
     ensures back { IfOk result (λ p. down (layout_of bytes.now p) ≡ bytes.now) }
@@ -49,12 +57,7 @@ pub fn read_plan(bytes: &[u8]) -> Result<Plan, PlanFault>
     let stations = reader.number(1, 8)?;
     let letters = read_letters(&mut reader, stations)?;
     let pages = reader.number(1, 16)?;
-    let page = read_pages(&mut reader, stations, pages)?;
+    let pages = read_pages(&mut reader, stations, pages)?;
     reader.end()?;
-    Ok(Plan {
-        stations,
-        letters,
-        pages,
-        page,
-    })
+    Ok(Plan { letters, pages })
 }

@@ -1,7 +1,7 @@
 -- What each call of a station answers and does: its tests in order, each with its refusal, and then its step.
 use Rattle.std.specs.Prelude.{ℕ, ◌+◌, Bool, cond, not, ◌&&◌, List, [], ◌∷◌, length, Ok, Err, Result, ◌==◌, nat_le, nat_lt}
-use Rattle.station.specs.declared.refusal.Place.TheVariants.{Row}
-use Rattle.station.specs.declared.refusal.Refusal.{Refusal}
+use Rattle.line.specs.Refusals.{row_at}
+use Rattle.line.specs.declared.refusal.Refusal.{Refusal}
 use Rattle.line.specs.Lists.{Lists, total, sent}
 use Rattle.notes.specs.declared.row.Access.{Access}
 use Rattle.notes.specs.declared.row.Standing.TheVariants.{Idle, Waiting}
@@ -56,7 +56,7 @@ module _ (s h g : ℕ) where
 
   abbrev pub starting : ℕ → Access → Notes → List ℕ → Lists → After Started
   starting room a r t w =
-      tested ((is_idle r.standing, refused 9 (Row s g)) ∷ (has_room room w, refused 13 (Row s g)) ∷ [])
+      tested ((is_idle r.standing, refused 9 (row_at s g)) ∷ (has_room room w, refused 13 (row_at s g)) ∷ [])
       (refusing r t w) (making began w (started a r t))
 
   abbrev pub ended : Notes → List ℕ → Step
@@ -64,14 +64,14 @@ module _ (s h g : ℕ) where
 
   abbrev pub ending : ℕ → Notes → List ℕ → Lists → After ℕ
   ending room r t w =
-      tested ((is_open r.standing, refused 9 (Row s g)) ∷ (has_room room w, refused 13 (Row s g)) ∷ [])
+      tested ((is_open r.standing, refused 9 (row_at s g)) ∷ (has_room room w, refused 13 (row_at s g)) ∷ [])
       (refusing r t w) (making number w (ended r t))
 
   abbrev pub flushing : ℕ → Notes → List ℕ → Lists → After ℕ
   flushing room r t w =
       tested
-      ((is_idle r.standing, refused 9 (Row s g)) ∷ (not (s == h) && not (is_none r.copy), refused 11 (Row s g))
-      ∷ (has_room room w, refused 13 (Row s g)) ∷ [])
+      ((is_idle r.standing, refused 9 (row_at s g)) ∷ (not (s == h) && not (is_none r.copy), refused 11 (row_at s g))
+      ∷ (has_room room w, refused 13 (row_at s g)) ∷ [])
       (refusing r t w) (making number w (flushed s h g r t))
 
   abbrev pub put : ℕ → List ℕ → Notes → List ℕ → Step
@@ -81,8 +81,8 @@ module _ (s h g : ℕ) where
   abbrev pub putting : ℕ → List ℕ → Notes → List ℕ → Result (Unit {0}) Refusal × Notes × List ℕ
   putting i xs r t =
       tested
-      ((is_writing r.standing, refused 9 (Row s g)) ∷ (nat_lt 0 (length xs) && nat_le (i + length xs) (length t), refused 10 (Row s g)) ∷ [])
+      ((is_writing r.standing, refused 9 (row_at s g)) ∷ (nat_lt 0 (length xs) && nat_le (i + length xs) (length t), refused 10 (row_at s g)) ∷ [])
       (λ e. (Err e, r, t)) (Ok tt, (put i xs r t).notes, (put i xs r t).text)
 
   abbrev pub looking : Notes → List ℕ → Result (List ℕ) Refusal
-  looking r t = tested ((is_open r.standing, refused 9 (Row s g)) ∷ []) Err (Ok t)
+  looking r t = tested ((is_open r.standing, refused 9 (row_at s g)) ∷ []) Err (Ok t)

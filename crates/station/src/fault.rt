@@ -1,50 +1,68 @@
 // Why a station refuses a call or a delivery.
-ghost use Rattle.std.specs.Prelude.{◌≡◌};
+ghost use Rattle.std.specs.Prelude.{◌≡◌, Some};
 ghost use Rattle.station.specs.Refusals.{told, title};
 
-use crate::refusal::{Place, Refusal};
+use line::{Layer, Pair, Place, Refusal, RowId};
+use std::error::Error;
+use std::fmt;
 
 /// Why a call at a station, or a delivery to it, is refused: with the station and the page, or the sender and the
 /// receiver.
-#[derive(Clone, Copy)]
+#[derive(Clone, Copy, Debug, PartialEq, Eq)]
 pub enum StationFault {
     /// The station does not stand to the page as the call needs it.
-    Standing(u8, u8),
+    Standing(RowId),
     /// No bytes, or bytes past the page's length.
-    Range(u8, u8),
+    Range(RowId),
     /// The station has no copy that could go back.
-    NoCopy(u8, u8),
+    NoCopy(RowId),
     /// A message that the protocol does not send there and then.
-    Strange(u8, u8),
+    Strange(Pair),
     /// Fewer than sixteen places are free on the line.
     Full(Place),
 }
 
-impl StationFault {
-    /// The number and the place of the refusal.
-    pub fn refusal(self) -> Refusal
-        ensures { result ≡ told self }
-    {
-        let (number, place) = match self {
-            StationFault::Standing(station, page) => (9, Place::Row(station, page)),
-            StationFault::Range(station, page) => (10, Place::Row(station, page)),
-            StationFault::NoCopy(station, page) => (11, Place::Row(station, page)),
-            StationFault::Strange(sender, receiver) => (12, Place::Pair(sender, receiver)),
+/// The layer, the number and the place of the refusal.
+impl From<StationFault> for Refusal {
+    ghost from_gives = { λ fault refusal. refusal ≡ told fault };
+
+    fn from(fault: StationFault) -> Refusal {
+        let (number, place) = match fault {
+            StationFault::Standing(row) => (9, Place::Row(row)),
+            StationFault::Range(row) => (10, Place::Row(row)),
+            StationFault::NoCopy(row) => (11, Place::Row(row)),
+            StationFault::Strange(pair) => (12, Place::Pair(pair)),
             StationFault::Full(place) => (13, place),
         };
-        Refusal { number, place }
+        Refusal {
+            layer: Layer::House,
+            number,
+            place,
+        }
     }
+}
 
+impl StationFault {
     /// The refusal's name.
     pub fn name(self) -> &'static str
         ensures { result.now ≡ title self }
     {
         match self {
-            StationFault::Standing(_, _) => "STANDING",
-            StationFault::Range(_, _) => "RANGE",
-            StationFault::NoCopy(_, _) => "NO COPY",
-            StationFault::Strange(_, _) => "STRANGE",
+            StationFault::Standing(_) => "STANDING",
+            StationFault::Range(_) => "RANGE",
+            StationFault::NoCopy(_) => "NO COPY",
+            StationFault::Strange(_) => "STRANGE",
             StationFault::Full(_) => "FULL",
         }
     }
 }
+
+impl fmt::Display for StationFault {
+    ghost output = { λ fault. Some (title fault) };
+
+    fn fmt<W: fmt::Write>(&self, f: &mut fmt::Formatter<W>) -> fmt::Result {
+        f.write_str(self.name())
+    }
+}
+
+impl Error for StationFault {}

@@ -1,5 +1,5 @@
 // Ending, and giving a copy back unasked.
-ghost use Rattle.std.specs.Prelude.{◌≡◌, ◌≤◌, length, IfOk};
+ghost use Rattle.std.specs.Prelude.{◌≡◌, IfOk};
 ghost use Rattle.std.specs.Result.{result_map_both};
 ghost use Rattle.line.specs.Lists.{paired};
 ghost use Rattle.notes.specs.View.{notes_of};
@@ -9,34 +9,32 @@ ghost use Rattle.steps.specs.Steps.{Counted};
 ghost use Rattle.steps.specs.Soundness.{Sound};
 
 use crate::fault::StationFault;
-use crate::refusal::Place;
 use crate::room::check_room;
-use line::{Kind, Line};
-use notes::{CopyKind, Row, Standing};
-use steps::{Site, end_away, give_back, serve_queue};
+use line::{Kind, Line, Place};
+use notes::{Row, Standing};
+use steps::{Away, Site, Text, serve_queue};
 
 /// Ends reading or writing, and tells how many messages that takes: STANDING unless the page is open, then FULL.
 pub fn end<L: Line>(
     row: &mut Row,
     site: Site,
-    text: &[u8],
+    text: &Text,
     line: &mut L,
 ) -> Result<usize, StationFault>
     requires sound { site.station ≡ site.home → Sound site.home (notes_of row.old) }
-    requires short { length text.now ≤ 64 }
-    ensures exact { (result_map_both (λ x. x) told result, notes_of row.new, text.now, paired (L.Line.waiting line.new)) ≡ ending site.station site.home site.page L.Line.room (notes_of row.old) text.now (paired (L.Line.waiting line.old)) }
+    ensures exact { (result_map_both (λ x. x) told result, notes_of row.new, text.now, paired (L.Line.waiting line.new)) ≡ ending site.station site.home site.page L.Line.CAPACITY (notes_of row.old) text.now (paired (L.Line.waiting line.old)) }
     ensures counted { IfOk result (Counted (paired (L.Line.waiting line.old)) (paired (L.Line.waiting line.new))) }
     ensures sound { site.station ≡ site.home → Sound site.home (notes_of row.new) }
 {
     let Standing::Open(_) = row.standing else {
-        return Err(StationFault::Standing(site.station, site.page));
+        return Err(StationFault::Standing(site.row()));
     };
-    check_room(line, Place::Row(site.station, site.page))?;
+    check_room(line, Place::Row(site.row()))?;
     if site.station == site.home {
         row.standing = Standing::Idle;
         Ok(serve_queue(row, site, text, line))
     } else {
-        Ok(end_away(row, site, text, line))
+        Ok(Away { site }.end(row, text, line))
     }
 }
 
@@ -45,20 +43,19 @@ pub fn end<L: Line>(
 pub fn flush<L: Line>(
     row: &mut Row,
     site: Site,
-    text: &[u8],
+    text: &Text,
     line: &mut L,
 ) -> Result<usize, StationFault>
-    requires short { length text.now ≤ 64 }
-    ensures exact { (result_map_both (λ x. x) told result, notes_of row.new, text.now, paired (L.Line.waiting line.new)) ≡ flushing site.station site.home site.page L.Line.room (notes_of row.old) text.now (paired (L.Line.waiting line.old)) }
+    ensures exact { (result_map_both (λ x. x) told result, notes_of row.new, text.now, paired (L.Line.waiting line.new)) ≡ flushing site.station site.home site.page L.Line.CAPACITY (notes_of row.old) text.now (paired (L.Line.waiting line.old)) }
     ensures counted { IfOk result (Counted (paired (L.Line.waiting line.old)) (paired (L.Line.waiting line.new))) }
 {
-    let Standing::Idle = row.standing else {
-        return Err(StationFault::Standing(site.station, site.page));
-    };
-    if site.station == site.home || matches!(row.copy, CopyKind::None) {
-        return Err(StationFault::NoCopy(site.station, site.page));
+    if row.standing != Standing::Idle {
+        return Err(StationFault::Standing(site.row()));
     }
-    check_room(line, Place::Row(site.station, site.page))?;
-    give_back(row, site, Kind::FlushWithText, Kind::Flush, text, line);
+    if site.station == site.home || row.copy.is_none() {
+        return Err(StationFault::NoCopy(site.row()));
+    }
+    check_room(line, Place::Row(site.row()))?;
+    Away { site }.give_back(row, Kind::FlushWithText, Kind::Flush, text, line);
     Ok(1)
 }

@@ -3,14 +3,12 @@
 
 mod fault;
 mod finish;
-mod refusal;
 mod room;
 mod starts;
 mod text;
 
 pub use fault::StationFault;
 pub use finish::{end, flush};
-pub use refusal::{Place, Refusal};
 pub use room::check_room;
 pub use starts::{Started, start};
 pub use text::{look, put};

@@ -6,18 +6,16 @@ ghost use Rattle.station.specs.Refusals.{told, refused};
 ghost use Rattle.station.specs.Calls.{has_room};
 
 use crate::fault::StationFault;
-use crate::refusal::Place;
-use line::{Line, capacity};
+use line::{Line, Place};
 
 /// How many places are free before a step: no step posts more messages.
 pub const ROOM: usize = 16;
 
 /// FULL unless so many places are free.
 pub fn check_room<L: Line>(line: &L, place: Place) -> Result<(), StationFault>
-    ensures { result_map_both (λ x. x) told result ≡ (if has_room L.Line.room (paired (L.Line.waiting line.now)) then Ok tt else Err (refused 13 place)) }
+    ensures { result_map_both (λ x. x) told result ≡ (if has_room L.Line.CAPACITY (paired (L.Line.waiting line.now)) then Ok tt else Err (refused 13 place)) }
 {
-    let places = capacity::<L>();
-    if places >= ROOM && line.total() <= places - ROOM {
+    if line.free() >= ROOM {
         Ok(())
     } else {
         Err(StationFault::Full(place))

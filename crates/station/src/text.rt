@@ -20,11 +20,11 @@ pub fn put(
 ) -> Result<(), StationFault>
     ensures { (result_map_both (λ x. x) told result, notes_of row.new, text.new) ≡ putting site.station site.home site.page offset bytes.now (notes_of row.old) text.old }
 {
-    let Standing::Open(Access::Write) = row.standing else {
-        return Err(StationFault::Standing(site.station, site.page));
-    };
-    if bytes.len() == 0 || offset > text.len() || bytes.len() > text.len() - offset {
-        return Err(StationFault::Range(site.station, site.page));
+    if row.standing != Standing::Open(Access::Write) {
+        return Err(StationFault::Standing(site.row()));
+    }
+    if bytes.is_empty() || offset > text.len() || bytes.len() > text.len() - offset {
+        return Err(StationFault::Range(site.row()));
     }
     text[offset..offset + bytes.len()].copy_from_slice(bytes);
     if site.station != site.home {
@@ -38,7 +38,7 @@ pub fn look<'a>(row: &Row, site: Site, text: &'a [u8]) -> Result<&'a [u8], Stati
     ensures { result_map_both (λ x. x.now) told result ≡ looking site.station site.home site.page (notes_of row.now) text.now }
 {
     let Standing::Open(_) = row.standing else {
-        return Err(StationFault::Standing(site.station, site.page));
+        return Err(StationFault::Standing(site.row()));
     };
     Ok(text)
 }

@@ -1,6 +1,7 @@
 -- A queue in which no station stands twice has at most eight entries.
-use Rattle.std.proofs.Common.{◌≡◌, ℕ, zero, suc, ◌<◌, ◌≤◌, Bool, true, false, cond, ◌||◌, eqb, ◌⊎◌, List, [], ◌∷◌, ◌++◌, length, sym, refl, ap, ◌∙◌, inl, inr, ⊎_elim, arith}
-use Rattle.std.proofs.lemmas.Bool.{eqb-true, eqb-false, ne_eqb, cases_Bool}
+use Rattle.std.proofs.Common.{◌≡◌, ℕ, zero, suc, ◌<◌, ◌≤◌, Bool, true, false, cond, eqb, ◌⊎◌, List, [], ◌∷◌, ◌++◌, length, sym, refl, ap, ◌∙◌, arith}
+use Rattle.std.proofs.lemmas.Bool.Decides.{nat_tests}
+use Rattle.std.proofs.lemmas.Bool.{eqb-true, eqb-false, or_parts}
 use Rattle.notes.specs.declared.row.Access.{Access}
 use Rattle.notes.specs.declared.row.Access.TheVariants.{Read}
 use Rattle.notes.specs.declared.queue.Entry.{Entry}
@@ -17,26 +18,15 @@ but : ℕ → List Entry → List Entry
 but n [] = []
 but n (e ∷ q) = cond (eqb e.station n) (but n q) (e ∷ but n q)
 
-parts : (a b : Bool) → (a || b) ≡ false → (a ≡ false) × (b ≡ false)
-parts false b e = (refl, e)
-parts true b e = let z : ◌≡◌ {A = ℕ} 0 1 = ap (λ c. cond c 1 0) (sym e) in absurd (omega arith)
-
 stays_out : (n k : ℕ) (q : List Entry) → queued k q ≡ false → queued k (but n q) ≡ false
 unfolding but
 stays_out n k [] f = refl
-stays_out n k (e ∷ q) f =
-    let p = parts (eqb e.station k) (queued k q) f in go (eqb e.station n) p.0 (stays_out n k q p.1)
-  where
-    go : (c : Bool) → eqb e.station k ≡ false → queued k (but n q) ≡ false → queued k (cond c (but n q) (e ∷ but n q)) ≡ false
-    go true x rest = rest
-    go false x rest = rw x rest
+stays_out n k (e ∷ q) f = grind (arith, stays_out n k q)
 
 unchanged : (n : ℕ) (q : List Entry) → queued n q ≡ false → but n q ≡ q
 unfolding but
 unchanged n [] f = refl
-unchanged n (e ∷ q) f =
-    let p = parts (eqb e.station n) (queued n q) f in
-    rw p.0 (ap (λ xs. e ∷ xs) (unchanged n q p.1))
+unchanged n (e ∷ q) f = grind (arith, unchanged n q)
 
 -- one station less
 lower : (n : ℕ) (q : List Entry) → Below (suc n) q → Below n (but n q) × (length q ≤ suc (length (but n q)))
@@ -74,24 +64,13 @@ unfolding Below
 place_left q s a lt f =
     let h = few 8 (record { station = s; access = Read } ∷ q) (lt, f, below q a) in omega (arith, h)
 
+-- who is queued once s has joined was queued, or is s
+pub last_or : (q : List Entry) (k s : ℕ) (a : Access) → queued k (q ++ record { station = s; access = a } ∷ []) ≡ true → (queued k q ≡ true) ⊎ (s ≡ k)
+last_or [] k s a i = grind (arith, nat_tests)
+last_or (e ∷ q) k s a i = grind (arith, last_or q k s a)
+
 pub joins_apart : (q : List Entry) (e : Entry) → Apart q → e.station < 8 → queued e.station q ≡ false → Apart (q ++ e ∷ [])
 joins_apart [] e a lt f = (lt, refl, tt)
 joins_apart (x ∷ q) e a lt f =
-    let p = parts (eqb x.station e.station) (queued e.station q) f in
-    (a.0, last x q a.1 (ne_eqb _ _ (λ z. eqb-false _ _ p.0 (sym z))), joins_apart q e a.2 lt p.1)
-  where
-    last : (x : Entry) (q : List Entry) → queued x.station q ≡ false → eqb e.station x.station ≡ false → queued x.station (q ++ e ∷ []) ≡ false
-    last x [] f n = rw n
-    last x (y ∷ q) f n =
-        let p = parts (eqb y.station x.station) (queued x.station q) f in
-        rw p.0 (last x q p.1 n)
-
--- who is queued once s has joined was queued, or is s
-pub last_or : (q : List Entry) (k s : ℕ) (a : Access) → queued k (q ++ record { station = s; access = a } ∷ []) ≡ true → (queued k q ≡ true) ⊎ (s ≡ k)
-last_or [] k s a i = ⊎_elim (λ (t : eqb s k ≡ true). inr (eqb-true _ _ t)) (λ (f : eqb s k ≡ false). let z : ◌≡◌ {A = ℕ} 0 1 = ap (λ b. cond b 1 0) (rw f at i) in absurd (omega arith)) (cases_Bool (eqb s k))
-last_or (e ∷ q) k s a i = go (eqb e.station k) refl (last_or q k s a)
-  where
-    go : (c : Bool) → eqb e.station k ≡ c → (queued k (q ++ record { station = s; access = a } ∷ []) ≡ true → (queued k q ≡ true) ⊎ (s ≡ k))
-        → (queued k (e ∷ q) ≡ true) ⊎ (s ≡ k)
-    go true x next = inl (rw x)
-    go false x next = rw x (next (rw x at i))
+    let p = or_parts (eqb x.station e.station) (queued e.station q) f in
+    (a.0, grind (arith, nat_tests, p.0, a.1, last_or q x.station e.station e.access), joins_apart q e a.2 lt p.1)

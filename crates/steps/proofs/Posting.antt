@@ -1,7 +1,8 @@
 -- Messages posted one after another.
-use Rattle.std.proofs.Common.{◌≡◌, ℕ, zero, suc, ◌+◌, ◌<◌, ◌≤◌, Bool, true, false, cond, ◌||◌, eqb, leb, List, [], ◌∷◌, ◌++◌, map, length, Some, None, Option, sym, refl, ap, ◌∙◌, ⊎_elim, append-nil, add-one, arith, length-append}
-use Rattle.std.proofs.lemmas.List.{map-append}
-use Rattle.std.proofs.lemmas.Bool.{cases_eq, leb-false}
+use Rattle.std.proofs.Common.{◌≡◌, ℕ, zero, suc, ◌+◌, ◌<◌, ◌≤◌, Bool, true, false, cond, ◌||◌, eqb, leb, List, [], ◌∷◌, map, length, All, Some, None, Option, sym, refl, ap, ◌∙◌, arith}
+use Rattle.std.proofs.lemmas.Bool.Decides.{nat_tests}
+use Rattle.std.proofs.lemmas.List.Elements.{All-nil, All-cons, All-head, All-rest, All-append}
+use Rattle.std.proofs.lemmas.Bool.{true≢false}
 use Rattle.line.specs.declared.fault.Misfit.{Misfit}
 use Rattle.line.specs.declared.fault.Misfit.TheVariants.{Receiver, Page, Sender}
 use Rattle.line.specs.declared.kind.Kind.TheVariants.{Invalidate}
@@ -10,81 +11,50 @@ use Rattle.line.specs.Lists.{Lists, total, posted, sent}
 use Rattle.line.proofs.Totals.{total_posted}
 use Rattle.notes.specs.Sets.{isin, members_below, members}
 
-pub sent-++ : (xs ys : List Msg) (w : Lists) → sent (xs ++ ys) w ≡ sent ys (sent xs w)
-sent-++ [] ys w = refl
-sent-++ (x ∷ xs) ys w = sent-++ xs ys (posted x w)
+-- the messages that call back these stations
+abbrev calls : ℕ → ℕ → List ℕ → List Msg
+calls h g ks = map (λ k. msg h k g Invalidate []) ks
 
--- the stations below n among those below k
-pub fewer : (n k m : ℕ) → n ≤ k → length (members_below n m) ≤ length (members_below k m)
+-- a station that is not the home
+abbrev pub Other : ℕ → ℕ → Type 0
+Other h k = (k < 8) × (k ≡ h → ⊥)
+
+-- From the lists w to the lists x the stations ms were called back but for ks, which are to come.
+pub record Calling (h g : ℕ) (ms : List ℕ) (w : Lists) (ks : List ℕ) (x : Lists) : Type 0 where
+  pub lists : sent (calls h g ks) x ≡ sent (calls h g ms) w
+  pub count : total x + length ks ≡ total w + length ms
+  pub able : All (Other h) ks
+
+-- the stations of a set without the home
+others : (h m n : ℕ) → isin h m ≡ false → n ≤ 8 → All (Other h) (members_below n m)
 unfolding members_below
-fewer zero zero m le = omega arith
-fewer (suc n) zero m le = absurd (omega arith)
-fewer n (suc k) m le =
-    ⊎_elim
-    (λ (e : n ≡ suc k). rw e (omega arith))
-    (λ (e : n ≡ suc k → ⊥).
-    let h = fewer n k m (omega arith) in
-    rw (length-append (members_below k m) (cond (isin k m) (k ∷ []) [])) (omega (arith, h)))
-    (cases_eq n (suc k))
+others h m zero a le = All-nil (Other h)
+others h m (suc n) a le = All-append (Other h) _ _ (others h m n a (omega arith)) (go (isin n m) refl)
+  where
+    go : (b : Bool) → isin n m ≡ b → All (Other h) (cond b (n ∷ []) [])
+    go true t = All-cons (Other h) n [] (omega arith, λ e. true≢false (sym t ∙ ap (λ j. isin j m) e ∙ a)) (All-nil (Other h))
+    go false t = All-nil (Other h)
 
--- INVALIDATE went to the stations of m below n: from the lists w to the lists x
-pub record Called (h g m : ℕ) (w : Lists) (n : ℕ) (x : Lists) : Type 0 where
-  pub lists : x ≡ sent (map (λ k. msg h k g Invalidate []) (members_below n m)) w
-  pub count : total x ≡ total w + length (members_below n m)
+module _ (h g m : ℕ) (w : Lists) (away : isin h m ≡ false) where
+  pub none_called : (ks : List ℕ) → ks ≡ members m → Calling h g (members m) w ks w
+  none_called ks e = rw e (record { lists = refl; count = refl; able = others h m 8 away (omega arith) })
 
-module _ (h g m : ℕ) (w : Lists) where
-  pub none_called : Called h g m w 0 w
-  unfolding members_below
-  none_called = record { lists = refl; count = omega arith }
-
-  module _ (k : ℕ) (v : Lists) (c : Called h g m w k v) where
-    pub calls : (u : Lists) → isin k m ≡ true → u ≡ posted (msg h k g Invalidate []) v → h < 8 → k < 8 → Called h g m w (k + 1) u
-    unfolding members_below
-    calls u t e lh lk =
-        let more : members_below (k + 1) m ≡ members_below k m ++ k ∷ [] = rw (add-one, t) in
-        record {
-          lists = e ∙ ap (posted (msg h k g Invalidate [])) c.lists
-              ∙ sym (ap (λ ks. sent (map (λ j. msg h j g Invalidate []) ks) w) more
-              ∙ ap (λ ms. sent ms w) (map-append (λ j. msg h j g Invalidate []) (members_below k m) (k ∷ []))
-              ∙ sent-++ (map (λ j. msg h j g Invalidate []) (members_below k m)) (msg h k g Invalidate [] ∷ []) w);
-          count = ap total e ∙ total_posted (msg h k g Invalidate []) v lh lk
-              ∙ omega (arith, c.count, ap length more, length-append (members_below k m) (k ∷ []));
-        }
-
-    pub skips : isin k m ≡ false → Called h g m w (k + 1) v
-    unfolding members_below
-    skips t =
-        let same : members_below (k + 1) m ≡ members_below k m = rw (add-one, t) (append-nil _) in
-        record {
-          lists = c.lists ∙ ap (λ ks. sent (map (λ j. msg h j g Invalidate []) ks) w) (sym same);
-          count = omega (arith, c.count, ap length same);
-        }
-
-    -- there is a place for one more
-    pub one_free : (room : ℕ) → isin k m ≡ true → k < 8 → total w + length (members m) ≤ room → total v < room
-    unfolding members_below
-    one_free room t lk fits =
-        let more : members_below (k + 1) m ≡ members_below k m ++ k ∷ [] = rw (add-one, t) in
-        let n = fewer (k + 1) 8 m (omega arith) in
-        omega (arith, c.count, n, fits, ap length more, length-append (members_below k m) (k ∷ []))
-
--- who is in a set and who is not
-pub apart : (h k m : ℕ) → isin h m ≡ false → isin k m ≡ true → k ≡ h → ⊥
-apart h k m f t e = let z : ◌≡◌ {A = ℕ} 0 1 = ap (λ b. cond b 0 1) (sym t ∙ ap (λ j. isin j m) e ∙ f) in omega arith
+  pub calls_one : (k : ℕ) (js ks : List ℕ) (x u : Lists) → Calling h g (members m) w js x → js ≡ k ∷ ks → u ≡ posted (msg h k g Invalidate []) x → h < 8
+      → Calling h g (members m) w ks u
+  calls_one k js ks x u c i e lh =
+      let t = ap total e ∙ total_posted (msg h k g Invalidate []) x lh (All-head (Other h) k ks (rw i at c.able)).0 in
+      record {
+        lists = ap (λ y. sent (calls h g ks) y) e ∙ ap (λ ls. sent (calls h g ls) x) (sym i) ∙ c.lists;
+        count = omega (arith, t, c.count, ap length i);
+        able = All-rest (Other h) k ks js i c.able;
+      }
 
 -- three tests that no misfit was found by
 passed : (a b c : Bool) (x y z : Misfit) (o : Option Misfit) → cond a (Some x) (cond b (Some y) (cond c (Some z) o)) ≡ None → (a ≡ false) × (c ≡ false)
-passed false false false x y z o e = (refl, refl)
-passed true b c x y z o e = let n : ◌≡◌ {A = ℕ} 0 1 = cc in absurd (omega arith)
-passed false true c x y z o e = let n : ◌≡◌ {A = ℕ} 0 1 = cc in absurd (omega arith)
-passed false false true x y z o e = let n : ◌≡◌ {A = ℕ} 0 1 = cc in absurd (omega arith)
+passed a b c x y z o e = grind arith
 
 -- the stations of a message are below 8
 pub in_range : (m : Msg) → Fits m → (m.sender < 8) × (m.receiver < 8)
 in_range m f =
     let p = passed (leb 8 m.receiver) (leb 16 m.page) (leb 8 m.sender || eqb m.sender m.receiver) Receiver Page Sender _ f in
-    (leb-false 8 m.sender (or_false_left _ _ p.1), leb-false 8 m.receiver p.0)
-  where
-    or_false_left : (a b : Bool) → (a || b) ≡ false → a ≡ false
-    or_false_left false b e = refl
-    or_false_left true b e = let n : ◌≡◌ {A = ℕ} 0 1 = ap (λ c. cond c 0 1) e in absurd (omega arith)
+    grind (arith, nat_tests, p)

@@ -1,5 +1,5 @@
 -- The steps of a station away from a page's home, on its own row and on the page's text on its part of the shelf.
-use Rattle.std.specs.Prelude.{◌≡◌, ℕ, ◌+◌, ◌≤◌, Bool, true, false, cond, not, ◌&&◌, List, [], ◌∷◌, ◌++◌, length, take, drop}
+use Rattle.std.specs.Prelude.{◌≡◌, ℕ, ◌+◌, ◌≤◌, Bool, true, false, cond, not, ◌&&◌, List, [], ◌∷◌, ◌++◌, length, take, drop, Option, None}
 use Rattle.line.specs.declared.kind.Kind.{Kind}
 use Rattle.line.specs.declared.kind.Kind.TheVariants.{ReadRequest, WriteRequest, Ack, AckWithText, Flush, FlushWithText}
 use Rattle.line.specs.Messages.{Msg, msg}
@@ -7,7 +7,6 @@ use Rattle.line.specs.Lists.{Lists, total, sent}
 use Rattle.notes.specs.declared.row.Access.{Access}
 use Rattle.notes.specs.declared.row.Access.TheVariants.{Read, Write}
 use Rattle.notes.specs.declared.row.CopyKind.{CopyKind}
-use Rattle.notes.specs.declared.row.CopyKind.TheVariants.{None as NoCopy}
 use Rattle.notes.specs.declared.row.Standing.{Standing}
 use Rattle.notes.specs.declared.row.Standing.TheVariants.{Idle, Waiting, Open}
 use Rattle.notes.specs.Notes.{Notes, notes, is_none, is_exclusive}
@@ -38,7 +37,7 @@ request Read = ReadRequest
 request Write = WriteRequest
 
 -- whether a copy is enough to open the page at once
-abbrev pub suffices : Access → CopyKind → Bool
+abbrev pub suffices : Access → Option CopyKind → Bool
 suffices Read c = not (is_none c)
 suffices Write c = is_exclusive c
 
@@ -51,7 +50,7 @@ module _ (s h g : ℕ) where
   -- giving back: the text goes with the copy where it was changed
   abbrev pub given_back : (changed unchanged : Kind) → Notes → List ℕ → Step
   given_back k l r t =
-      step (notes NoCopy false false r.standing r.home) t
+      step (notes None false false r.standing r.home) t
       (cond (is_exclusive r.copy && r.changed) (msg s h g k t) (msg s h g l []) ∷ [])
 
   abbrev pub started_away : Access → Notes → List ℕ → Step

@@ -12,24 +12,26 @@ ghost use Rattle.steps.specs.Soundness.{Sound};
 
 use crate::serve::serve_queue;
 use crate::site::Site;
+use crate::text::Text;
 use line::Line;
 use notes::{Access, Entry, Mode, Row};
 
 /// A station joins the queue, and the home serves the page.
+// That the home's row is sound stays a clause of each step: a row's fields are open, and away from home it need not be
+// sound, so a fact in its type would ask more of whoever writes one.
 pub fn enqueue<L: Line>(
     row: &mut Row,
     site: Site,
     station: u8,
     access: Access,
-    text: &[u8],
+    text: &Text,
     line: &mut L,
 ) -> usize
     requires sound { Sound site.home (notes_of row.old) }
     requires station { station < 8 }
     requires new { queued station (notes_of row.old).home.queue ≡ false }
     requires own { station ≡ site.home → is_waiting row.old.standing ≡ true }
-    requires short { length text.now ≤ 64 }
-    requires free { sum (paired (L.Line.waiting line.old)) + 16 ≤ L.Line.room }
+    requires free { sum (paired (L.Line.waiting line.old)) + 16 ≤ L.Line.CAPACITY }
     ensures step { (notes_of row.new, text.now, paired (L.Line.waiting line.new)) ≡ done (serves site.home site.page text.now (enqueued station access (notes_of row.old))) (paired (L.Line.waiting line.old)) }
     ensures posted { result ≡ length (serves site.home site.page text.now (enqueued station access (notes_of row.old))).posts }
     ensures counted { Counted (paired (L.Line.waiting line.old)) (paired (L.Line.waiting line.new)) result }
@@ -44,14 +46,13 @@ pub fn take_back<L: Line>(
     row: &mut Row,
     site: Site,
     station: u8,
-    text: &[u8],
+    text: &Text,
     line: &mut L,
 ) -> usize
     requires sound { Sound site.home (notes_of row.old) }
     requires station { station < 8 }
     requires holder { isin station (notes_of row.old).home.holders ≡ true }
-    requires short { length text.now ≤ 64 }
-    requires free { sum (paired (L.Line.waiting line.old)) + 16 ≤ L.Line.room }
+    requires free { sum (paired (L.Line.waiting line.old)) + 16 ≤ L.Line.CAPACITY }
     ensures step { (notes_of row.new, text.now, paired (L.Line.waiting line.new)) ≡ done (serves site.home site.page text.now (returned station (notes_of row.old))) (paired (L.Line.waiting line.old)) }
     ensures posted { result ≡ length (serves site.home site.page text.now (returned station (notes_of row.old))).posts }
     ensures counted { Counted (paired (L.Line.waiting line.old)) (paired (L.Line.waiting line.new)) result }

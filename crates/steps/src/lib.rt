@@ -6,8 +6,9 @@ mod home;
 mod post;
 mod serve;
 mod site;
+mod text;
 
-pub use away::{end_away, give_back, start_away};
 pub use home::{enqueue, take_back};
 pub use serve::{Verdict, serve_queue};
-pub use site::Site;
+pub use site::{Away, Site};
+pub use text::Text;

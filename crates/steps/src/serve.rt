@@ -11,6 +11,7 @@ ghost use Rattle.steps.specs.Soundness.{Sound};
 
 use crate::post::send;
 use crate::site::Site;
+use crate::text::Text;
 use line::{Kind, Line};
 use notes::{Access, Entry, Mode, Row, Standing, StationSet};
 
@@ -50,25 +51,28 @@ fn judge(row: &Row, entry: Entry) -> Verdict
 /// Calls back the copies of these stations, the lowest first, and tells how many.
 fn recall<L: Line>(stations: StationSet, site: Site, line: &mut L) -> usize
     requires away { isin site.home stations.bits ≡ false }
-    requires free { sum (paired (L.Line.waiting line.old)) + length (members stations.bits) ≤ L.Line.room }
+    requires free { sum (paired (L.Line.waiting line.old)) + length (members stations.bits) ≤ L.Line.CAPACITY }
     ensures lists { paired (L.Line.waiting line.new) ≡ sent (recalls site.home site.page stations.bits) (paired (L.Line.waiting line.old)) }
     ensures posted { result ≡ length (members stations.bits) }
     ensures added { sum (paired (L.Line.waiting line.new)) ≡ sum (paired (L.Line.waiting line.old)) + result }
 {
-    for station in 0..8 {
-        if stations.has(station) {
-            send(line, site.home, station, site.page, Kind::Invalidate, &[]);
-        }
+    for station in stations {
+        send(
+            line,
+            site.from_home(station),
+            site.page,
+            Kind::Invalidate,
+            &[],
+        );
     }
     stations.count() as usize
 }
 
 /// Gives the page to the first entry of the queue, and tells how many messages that takes.
-fn grant<L: Line>(row: &mut Row, site: Site, entry: Entry, text: &[u8], line: &mut L) -> usize
+fn grant<L: Line>(row: &mut Row, site: Site, entry: Entry, text: &Text, line: &mut L) -> usize
     requires station { entry.station < 8 }
     requires queue { 0 < length (entries row.old.desk.queue.slots) }
-    requires short { length text.now ≤ 64 }
-    requires free { sum (paired (L.Line.waiting line.old)) + length (granted site.home site.page text.now entry (notes_of row.old)).posts ≤ L.Line.room }
+    requires free { sum (paired (L.Line.waiting line.old)) + length (granted site.home site.page text.now entry (notes_of row.old)).posts ≤ L.Line.CAPACITY }
     ensures step { (notes_of row.new, text.now, paired (L.Line.waiting line.new)) ≡ done (granted site.home site.page text.now entry (notes_of row.old)) (paired (L.Line.waiting line.old)) }
     ensures posted { result ≡ length (granted site.home site.page text.now entry (notes_of row.old)).posts }
     ensures added { sum (paired (L.Line.waiting line.new)) ≡ sum (paired (L.Line.waiting line.old)) + result }
@@ -78,39 +82,18 @@ fn grant<L: Line>(row: &mut Row, site: Site, entry: Entry, text: &[u8], line: &m
         row.standing = Standing::Open(entry.access);
         return 0;
     }
+    let (kind, sent) = match entry.access {
+        Access::Read => (Kind::SharedCopy, text.as_bytes()),
+        Access::Write if row.desk.holders.has(entry.station) => (Kind::ModifyGrant, [].as_slice()),
+        Access::Write => (Kind::ExclusiveCopy, text.as_bytes()),
+    };
+    send(line, site.from_home(entry.station), site.page, kind, sent);
     match entry.access {
         Access::Read => {
-            send(
-                line,
-                site.home,
-                entry.station,
-                site.page,
-                Kind::SharedCopy,
-                text,
-            );
             row.desk.mode = Mode::Shared;
             row.desk.holders = row.desk.holders.with(entry.station);
         }
         Access::Write => {
-            if row.desk.holders.has(entry.station) {
-                send(
-                    line,
-                    site.home,
-                    entry.station,
-                    site.page,
-                    Kind::ModifyGrant,
-                    &[],
-                );
-            } else {
-                send(
-                    line,
-                    site.home,
-                    entry.station,
-                    site.page,
-                    Kind::ExclusiveCopy,
-                    text,
-                );
-            }
             row.desk.mode = Mode::Away;
             row.desk.holders = StationSet::only(entry.station);
         }
@@ -120,10 +103,9 @@ fn grant<L: Line>(row: &mut Row, site: Site, entry: Entry, text: &[u8], line: &m
 
 /// Serves the page: nothing while a station is awaited; else the first entry of the queue, and on until one is not
 /// granted. Tells how many messages that takes.
-pub fn serve_queue<L: Line>(row: &mut Row, site: Site, text: &[u8], line: &mut L) -> usize
+pub fn serve_queue<L: Line>(row: &mut Row, site: Site, text: &Text, line: &mut L) -> usize
     requires sound { Sound site.home (notes_of row.old) }
-    requires short { length text.now ≤ 64 }
-    requires free { sum (paired (L.Line.waiting line.old)) + 16 ≤ L.Line.room }
+    requires free { sum (paired (L.Line.waiting line.old)) + 16 ≤ L.Line.CAPACITY }
     ensures step { (notes_of row.new, text.now, paired (L.Line.waiting line.new)) ≡ done (serves site.home site.page text.now (notes_of row.old)) (paired (L.Line.waiting line.old)) }
     ensures posted { result ≡ length (serves site.home site.page text.now (notes_of row.old)).posts }
     ensures counted { Counted (paired (L.Line.waiting line.old)) (paired (L.Line.waiting line.new)) result }

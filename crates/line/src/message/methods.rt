@@ -1,94 +1,82 @@
 // Making a message, and reading its parts.
 ghost use Rattle.std.specs.Prelude.{◌≡◌, length};
 ghost use Rattle.std.specs.Result.{result_map_both};
-ghost use Rattle.line.specs.Refusals.{misfits};
-ghost use Rattle.line.specs.Messages.{misfit as misfit_of, made};
+ghost use Rattle.line.specs.Refusals.{misfits, pair_of};
+ghost use Rattle.line.specs.Messages.{msg, made};
 ghost use Rattle.line.specs.View.{msg_of};
 
 use crate::fault::Misfit;
+use crate::header::Header;
 use crate::kind::Kind;
 use crate::message::Message;
-
-/// The first part, in the order of a frame, that fits no message together with the parts before it.
-pub fn misfit(receiver: u32, kind: Kind, page: u32, sender: u32, length: usize) -> Option<Misfit>
-    ensures { result ≡ misfit_of receiver kind page sender length }
-{
-    if receiver >= 8 {
-        return Some(Misfit::Receiver);
-    }
-    if page >= 16 {
-        return Some(Misfit::Page);
-    }
-    if sender >= 8 || sender == receiver {
-        return Some(Misfit::Sender);
-    }
-    if length > 64 || (length > 0 && !kind.bears_text()) {
-        return Some(Misfit::Length);
-    }
-    None
-}
+use crate::pair::Pair;
 
 impl Message {
     /// The message of these parts, or the first part that fits none.
-    pub fn new(
-        sender: u8,
-        receiver: u8,
-        page: u8,
-        kind: Kind,
-        text: &[u8],
-    ) -> Result<Message, Misfit>
-        ensures { result_map_both msg_of misfits result ≡ made sender receiver page kind text.now }
+    pub fn new(pair: Pair, page: u8, kind: Kind, text: &[u8]) -> Result<Message, Misfit>
+        ensures { result_map_both msg_of misfits result ≡ made pair.sender pair.receiver page kind text.now }
     {
-        let length = text.len();
-        let part = misfit(
+        let Pair { sender, receiver } = pair;
+        let header = Header::of_kind(
             u32::from(receiver),
             kind,
             u32::from(page),
             u32::from(sender),
-            length,
+            text.len(),
         );
-        if let Some(part) = part {
-            return Err(part);
-        }
+        Ok(Message::with_text(header?, text))
+    }
+
+    /// The message of a header and the text that it tells of.
+    pub fn with_text(header: Header, text: &[u8]) -> Message
+        requires { length text.now ≡ header.length }
+        ensures { msg_of result ≡ msg header.sender header.receiver header.page header.kind text.now }
+    {
         let mut bytes = [0; 64];
-        bytes[0..length].copy_from_slice(text);
-        Ok(Message {
-            sender,
-            receiver,
-            page,
-            kind,
-            length,
+        bytes[..text.len()].copy_from_slice(text);
+        Message {
+            header,
             text: bytes,
-        })
+        }
     }
 
     pub fn sender(&self) -> u8
         ensures { result ≡ (msg_of self.now).sender }
     {
-        self.sender
+        self.header.sender
     }
 
     pub fn receiver(&self) -> u8
         ensures { result ≡ (msg_of self.now).receiver }
     {
-        self.receiver
+        self.header.receiver
+    }
+
+    /// Its sender and its receiver.
+    pub fn pair(&self) -> Pair
+        ensures { result ≡ pair_of (msg_of self.now).sender (msg_of self.now).receiver }
+    {
+        Pair {
+            sender: self.sender(),
+            receiver: self.receiver(),
+        }
     }
 
     pub fn page(&self) -> u8
         ensures { result ≡ (msg_of self.now).page }
     {
-        self.page
+        self.header.page
     }
 
     pub fn kind(&self) -> Kind
         ensures { result ≡ (msg_of self.now).kind }
     {
-        self.kind
+        self.header.kind
     }
 
     pub fn text(&self) -> &[u8]
         ensures { result.now ≡ (msg_of self.now).text }
     {
-        &self.text[0..self.length]
+        &self.text[..self.header.length]
     }
 }

@@ -1,32 +1,27 @@
 // What a frame line does.
-ghost use Rattle.std.specs.Prelude.{◌≡◌, ◌≤◌, length, IfOk, nat_le};
+ghost use Rattle.std.specs.Prelude.{◌≡◌, ◌≤◌, length, find, IfOk};
+ghost use Rattle.std.specs.Result.{result_map_both};
 ghost use Rattle.line.specs.Lists.{empty, paired};
-ghost use Rattle.lines.specs.Logs.{of, Found};
+ghost use Rattle.line.specs.Refusals.{told};
+ghost use Rattle.lines.specs.Logs.{goes, of, searched};
 ghost use Rattle.lines.specs.Framed.{framed};
 ghost use Rattle.lines.specs.Kept.{log};
-ghost use Rattle.lines.specs.Slots.{Placed};
+ghost use Rattle.lines.specs.Slots.{spot, placed, left};
 
-use crate::between::is_between;
 use crate::framed::FrameLine;
-use line::{Line, LineFault, Message, check_pair};
+use crate::framed::slots::{Slot, Slots};
+use line::{Line, LineFault, Message, Pair};
 use std::alloc::{AllocError, Global};
 
 /// The bytes of a frame with the longest text.
-const LONGEST: usize = 84;
+const LONGEST: usize = frame::HEADER + 64;
 
-/// The bytes of 256 such frames.
-const BYTES: usize = 21504;
-
-/// A message on the line, and the place and size of its frame.
-#[derive(Clone, Copy)]
-struct Slot {
-    message: Message,
-    at: usize,
-    size: usize,
-}
+/// The bytes of as many such frames as the line holds.
+const BYTES: usize = FrameLine::CAPACITY * LONGEST;
 
 impl FrameLine {
     /// An empty frame line, with the memory for all that it will hold.
+    #[tactic(auto, using(crate::proofs::Logs::none), unfolding(crate::specs::Framed::parsed))]
     pub fn new(heap: Global) -> Result<FrameLine, AllocError>
         ensures { IfOk result (λ f. paired (of (log f)) ≡ empty) }
     {
@@ -35,6 +30,7 @@ impl FrameLine {
     }
 
     /// The frames as they lie, in order of posting.
+    #[tactic(auto, using(crate::proofs::Framing::lie, crate::proofs::Framing::within))]
     pub fn as_bytes(&self) -> &[u8]
         ensures exact { result.now ≡ framed (log self.now) }
         ensures within { length result.now ≤ 21504 }
@@ -42,83 +38,68 @@ impl FrameLine {
         self.frames.as_slice()
     }
 
-    /// Whether as many messages wait as the line holds.
-    fn is_full(&self) -> bool
-        ensures { result ≡ nat_le 256 self.now.count }
+    /// The messages with the places of their frames, in order of posting.
+    #[tactic(auto, using(crate::proofs::Slots::whole, crate::proofs::Slots::few))]
+    fn slots(&self) -> Slots<'_>
+        ensures each { left result ≡ placed 0 (log self.now) }
+        ensures few { length (left result) ≤ 256 }
     {
-        self.count >= FrameLine::CAPACITY
+        Slots {
+            bytes: self.as_bytes(),
+            at: 0,
+        }
     }
 
     /// The pair's oldest message, and where its frame lies: PAIR, then EMPTY.
-    fn find(&self, sender: u8, receiver: u8) -> Result<Slot, LineFault>
-        ensures { Found (Placed (log self.now) sender receiver) (log self.now) sender receiver result }
+    fn find(&self, pair: Pair) -> Result<Slot, LineFault>
+        ensures { result_map_both spot told result ≡ searched pair.sender pair.receiver (find (λ p. goes pair.sender pair.receiver p.message) (placed 0 (log self.now))) }
     {
-        check_pair(sender, receiver)?;
-        let bytes = self.as_bytes();
-        let mut at = 0;
-        for _i in 0..self.count {
-            let (message, size) = frame::read(&bytes[at..]).unwrap();
-            if is_between(&message, sender, receiver) {
-                return Ok(Slot { message, at, size });
-            }
-            at += size;
-        }
-        Err(LineFault::Empty(sender, receiver))
+        pair.check()?;
+        self.slots()
+            .find(|slot| slot.message.pair() == pair)
+            .ok_or(LineFault::Empty(pair))
     }
 }
 
 impl Line for FrameLine {
     const CAPACITY: usize = 256;
 
-    ghost room = { 256 };
+    ghost CAPACITY = { 256 };
 
     ghost waiting = { λ f. of (log f) };
 
-    fn places() -> usize {
-        Self::CAPACITY
-    }
-
     fn post(&mut self, message: Message) -> Result<(), LineFault> {
-        if self.is_full() {
-            return Err(LineFault::NoPlace(message.sender(), message.receiver()));
+        // As the party line asks, and for the reason given there.
+        if self.total() >= Self::CAPACITY {
+            return Err(LineFault::NoPlace(message.pair()));
         }
+        // Fixed memory: a frame is written into a slice, and no call of a line allocates.
         let mut frame = [0; LONGEST];
         let size = frame::write(&message, &mut frame).unwrap();
-        self.frames.extend_from_slice(&frame[0..size]).unwrap();
+        self.frames.extend_from_slice(&frame[..size]).unwrap();
         self.count += 1;
         Ok(())
     }
 
-    fn count(&self, sender: u8, receiver: u8) -> Result<usize, LineFault> {
-        check_pair(sender, receiver)?;
-        let bytes = self.as_bytes();
-        let mut at = 0;
-        let mut found = 0;
-        for _i in 0..self.count {
-            let (message, size) = frame::read(&bytes[at..]).unwrap();
-            if is_between(&message, sender, receiver) {
-                found += 1;
-            }
-            at += size;
-        }
-        Ok(found)
+    fn count(&self, pair: Pair) -> Result<usize, LineFault> {
+        pair.check()?;
+        let waiting = self.slots().filter(|slot| slot.message.pair() == pair);
+        Ok(waiting.count())
     }
 
+    #[tactic(auto, using(crate::proofs::Framing::waits))]
     fn total(&self) -> usize {
         self.count
     }
 
-    fn peek(&self, sender: u8, receiver: u8) -> Result<Message, LineFault> {
-        let oldest = self.find(sender, receiver)?;
+    fn peek(&self, pair: Pair) -> Result<Message, LineFault> {
+        let oldest = self.find(pair)?;
         Ok(oldest.message)
     }
 
-    fn drop_oldest(&mut self, sender: u8, receiver: u8) -> Result<(), LineFault> {
-        let slot = self.find(sender, receiver)?;
-        let left = self.frames.len() - slot.size;
-        let end = slot.at + slot.size;
-        self.frames.copy_within(end.., slot.at);
-        self.frames.truncate(left);
+    fn drop_oldest(&mut self, pair: Pair) -> Result<(), LineFault> {
+        let Slot { bytes, .. } = self.find(pair)?;
+        self.frames.drain(bytes);
         self.count -= 1;
         Ok(())
     }

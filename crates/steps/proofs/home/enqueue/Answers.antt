@@ -16,6 +16,5 @@ serve_queue-requires g c =
     record {
       sound = subst (λ (q : List Entry). Sound c.args.site.home (notes r.copy r.changed r.recall r.standing (home_notes r.home.mode r.home.holders r.home.awaited q)))
           (sym c.push.ensures) (joins_sound _ _ c.args.access r c.requires.sound c.requires.station c.requires.new c.requires.own);
-      short = c.requires.short;
       free = c.requires.free;
     }

@@ -12,6 +12,5 @@ serve_queue-requires g c =
     record {
       sound = subst (λ (x : Notes). Sound c.args.site.home x) e
           (left_sound _ _ _ c.args.site.home_in c.requires.station c.requires.sound c.requires.holder);
-      short = c.requires.short;
       free = c.requires.free;
     }

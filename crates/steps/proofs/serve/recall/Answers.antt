@@ -1,26 +1,16 @@
-use Rattle.std.proofs.Common.{◌≡◌, true, sym, ◌∙◌, rules}
-use Rattle.notes.specs.Sets.{isin}
-use Rattle.steps.proofs.Posting.{none_called, calls, skips, one_free, apart}
+use Rattle.std.proofs.Common.{[], ap, ◌∙◌}
+use Rattle.line.specs.declared.kind.Kind.TheVariants.{Invalidate}
+use Rattle.line.specs.declared.pair.Pair.{Pair}
+use Rattle.line.specs.Messages.{msg}
+use Rattle.line.specs.Lists.{paired, posted}
+use Rattle.notes.specs.Sets.{members}
+use Rattle.steps.proofs.Posting.{none_called, calls_one}
 use Rattle.steps.proofs.serve.recall.Goals as goal
-use Rattle.steps.proofs.serve.recall.Goals.{then-has, else-has}
 
 pub loop-station-init : goal.loop-station-init
-loop-station-init g c = none_called _ _ _ _
-
-pub send-requires : goal.send-requires
-send-requires g c =
-    let t : isin c.loop-station.station c.args.stations.bits ≡ true = sym c.has.ensures ∙ c.if-has.true in
-    let ne = apart _ _ c.args.stations.bits c.requires.away t in
-    record {
-      makes = search rules;
-      free = one_free _ _ _ _ _ _ c.loop-station.invariant g.L.Line.room t c.loop-station-test.true c.requires.free;
-    }
+loop-station-init g c =
+    (tt, tt, none_called _ _ c.args.stations.bits _ c.requires.away _ (ap (λ (s : _). members s.bits) c.into_iter-station-iterator.ensures.into_iter_gives))
 
 pub loop-station-preserved : goal.loop-station-preserved
 loop-station-preserved g c =
-    elim c.if-has.branch [
-      | then-has w ↦
-          rw w.line-is
-          (calls _ _ _ _ _ _ c.loop-station.invariant _ (sym c.has.ensures ∙ w.if-has.true) w.send.ensures.lists c.args.site.home_in c.loop-station-test.true)
-      | else-has w ↦ rw w.line-is (skips _ _ _ _ _ _ c.loop-station.invariant (sym c.has.ensures ∙ w.if-has.false))
-    ]
+    (tt, tt, calls_one _ _ c.args.stations.bits _ c.requires.away c.in-Some.station _ _ _ _ c.loop-station.invariant.2 c.in-Some.ensures.steps (c.send.ensures.lists ∙ ap (λ (p : Pair). posted (msg p.sender p.receiver c.args.site.page Invalidate []) (paired (g.L.Line.waiting c.loop-station.line))) c.from_home.ensures) c.args.site.home_in)

@@ -1,8 +1,11 @@
 use Rattle.line.specs.Lists.{paired}
-use Rattle.steps.proofs.Posting.{Called}
+use Rattle.notes.specs.Sets.{members}
+use Rattle.steps.proofs.Posting.{Calling}
 use Rattle.steps.proofs.serve.recall.Given as goal
 
--- the stations below this one were called back
+-- the stations to come are still to be called back
 abbrev pub invariant-loop-station : goal.invariant-loop-station
 invariant-loop-station g l =
-    Called l.site.home l.site.page l.stations.bits (paired (g.L.Line.waiting l.initial.line)) l.station (paired (g.L.Line.waiting l.line))
+    (goal.iterator-loop-station g).can_next l.station-iterator
+    × (goal.iterator-loop-station g).is_finite l.station-iterator
+    × Calling l.site.home l.site.page (members l.stations.bits) (paired (g.L.Line.waiting l.initial.line)) (members l.station-iterator.rest.bits) (paired (g.L.Line.waiting l.line))

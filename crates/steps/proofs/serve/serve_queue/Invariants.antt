@@ -7,7 +7,7 @@ use Rattle.steps.proofs.serve.serve_queue.Given as goal
 
 abbrev pub invariant-loop-site : goal.invariant-loop-site
 invariant-loop-site g l =
-    Going l.site.home l.site.page l.text g.L.Line.room (notes_of l.initial.row) (paired (g.L.Line.waiting l.initial.line))
+    Going l.site.home l.site.page l.text g.L.Line.CAPACITY (notes_of l.initial.row) (paired (g.L.Line.waiting l.initial.line))
     (notes_of l.row) (paired (g.L.Line.waiting l.line)) l.posted
 
 abbrev pub decreases-loop-site : goal.decreases-loop-site

@@ -1,31 +1,17 @@
-use Rattle.std.proofs.Common.{◌≡◌, suc, ◌<◌, [], ◌∷◌, ◌++◌, length, refl, ap, ◌∙◌, add-one, arith, rules}
-use Rattle.notes.specs.Queues.{entries}
-use Rattle.notes.proofs.Slots.{none_passed, passes, pushed, pushed_last, all_taken, free, taken}
+use Rattle.std.proofs.Common.{rules, ◌≡◌, ◌<◌, ℕ, ◌+◌, ◌-◌, get_or, IsSome, None, replicate, ap, ◌∙◌, arith}
+use Rattle.notes.proofs.Slots.{filled, all_taken}
 use Rattle.notes.proofs.queue.Queue.push.Goals as goal
 
-pub loop-i-init : goal.loop-i-init
-loop-i-init c = (refl, none_passed _)
+pub returns-in-Some : goal.returns-in-Some
+returns-in-Some c =
+    let t : (k : ℕ) → k < c.in-Some.place → IsSome (get_or c.args.self.now.slots k None) = λ k l. search rules in
+    let f : get_or c.args.self.now.slots c.in-Some.place None ≡ None = search rules in
+    let l : c.in-Some.place < 8 = search rules in
+    let e : c.fill.new.self ≡ replicate (8 - (c.in-Some.place + 1)) None = c.fill.ensures.after (λ y k. search rules) ∙ ap (λ n. replicate n None) (search rules) in
+    rw e (filled c.in-Some.place (8 - (c.in-Some.place + 1)) c.args.self.now.slots c.args.entry t f (search rules))
 
-pub returns-then-i-lt7 : goal.returns-then-i-lt7
-returns-then-i-lt7 c =
-    let lt : suc c.loop-i.i < length c.loop-i.self.slots = search rules in
-    rw add-one (pushed c.loop-i.i c.loop-i.self.slots c.args.entry lt c.loop-i.invariant.1 (free _ _ c.is_none.ensures c.if-is_none.true))
-    ∙ ap (λ xs. entries xs ++ c.args.entry ∷ []) c.loop-i.invariant.0
-
-pub returns-else-i-lt7 : goal.returns-else-i-lt7
-returns-else-i-lt7 c =
-    let e : suc c.loop-i.i ≡ length c.loop-i.self.slots = search rules in
-    pushed_last c.loop-i.i c.loop-i.self.slots c.args.entry e c.loop-i.invariant.1 (free _ _ c.is_none.ensures c.if-is_none.true)
-    ∙ ap (λ xs. entries xs ++ c.args.entry ∷ []) c.loop-i.invariant.0
-
-pub loop-i-preserved : goal.loop-i-preserved
-loop-i-preserved c =
-    let lt : c.loop-i.i < length c.loop-i.self.slots = search rules in
-    let t = taken _ _ c.is_none.ensures c.if-is_none.false in
-    (c.loop-i.invariant.0, rw add-one (passes c.loop-i.i c.loop-i.self.slots t.0 lt c.loop-i.invariant.1 t.1))
-
-pub returns : goal.returns
-returns c =
-    let n = all_taken c.loop-i.i c.loop-i.self.slots c.loop-i.invariant.1 in
-    let m = ap (λ xs. length (entries xs)) c.loop-i.invariant.0 in
-    absurd (omega (arith, n, m, c.requires, c.loop-i-test.false))
+pub returns-in_default : goal.returns-in_default
+returns-in_default c =
+    let t : (k : ℕ) → k < 8 → IsSome (get_or c.args.self.now.slots k None) = λ k l. search rules in
+    let m = all_taken 8 c.args.self.now.slots t in
+    absurd (omega (arith, m, c.requires))

@@ -1,12 +1,19 @@
+use Rattle.std.proofs.Common.{rules}
 use Rattle.lines.specs.Kept.{log}
-use Rattle.lines.proofs.Calls.{peeks}
-use Rattle.lines.proofs.Framing.{holds, all_proper}
+use Rattle.lines.specs.Logs.{goes}
+use Rattle.lines.proofs.Logs.{peeks}
+use Rattle.lines.proofs.Slots.{first}
 use Rattle.lines.proofs.framed.methods.FrameLineLine.peek.Goals as goal
+
+pub returns-in_err-oldest : goal.returns-in_err-oldest
+returns-in_err-oldest c =
+    let a = c.args.pair.sender in
+    let b = c.args.pair.receiver in
+    let e = peeks (λ p. p.message) a b (log c.args.self.now) _ (first (goes a b) 0 (log c.args.self.now)) _ c.in_err-oldest.ensures in
+    search rules
 
 pub returns : goal.returns
 returns c =
-    let h = holds _ _ c.args.self.now.whole in
-    let f = c.in_ok-oldest.ensures in
-    let p = f.1 in
-    peeks (log c.args.self.now) (all_proper _ h.fit) c.args.sender c.args.receiver f.0
-    p.front _ p.back p.about p.none p.here
+    let a = c.args.pair.sender in
+    let b = c.args.pair.receiver in
+    peeks (λ p. p.message) a b (log c.args.self.now) _ (first (goes a b) 0 (log c.args.self.now)) _ c.in_ok-oldest.ensures
