@@ -1,7 +1,9 @@
 -- A frame on its way off a frame line.
 use Rattle.std.proofs.Common.{◌≡◌, ℕ, suc, ◌+◌, ◌-◌, ◌≤◌, Bool, true, false, Some, is_some, unwrap_or, vec_items, Option, Ok, List, [], ◌∷◌, ◌++◌, length, take, drop, sym, refl, ap, ◌∙◌, subst, ⊎_elim, arith, length-append}
 use Rattle.std.specs.List.{find, remove, remove_range, position_or_len}
-use Rattle.std.proofs.lemmas.List.{take_at, drop_at, drop-drop}
+use lib.Seq.{paste}
+use Rattle.std.proofs.lemmas.List.{take_at, drop_at, drop-drop, take_all, length-drop}
+use Rattle.std.proofs.lemmas.List.Edits.{take-paste}
 use Rattle.std.proofs.lemmas.List.Elements.{All-append, All-take, All-drop}
 use Rattle.std.proofs.lemmas.Bool.{cases_Bool, cond-true, cond-false, false≢true}
 use Rattle.line.specs.Messages.{Msg, Fits}
@@ -82,6 +84,19 @@ module _ (f : FrameLine) (a b : ℕ) (p : Spot) (found : Ok p ≡ searched a b (
       (λ i. drop (cut.ends i) (split i)) ∙ sym (drop-drop (size p.message) p.start (framed cut.front ++ (encoded p.message ++ framed cut.back)))
       ∙ ap (drop (size p.message)) (drop_at (framed cut.front) (encoded p.message ++ framed cut.back) p.start (omega (arith, cut.starts)))
       ∙ leaves p.message (framed cut.back)
+
+  -- the bytes behind it are copied over it, and the rest is cut off
+  pub moved : (len left : ℕ) (xs ys : List ℕ) → len ≡ length (vec_items f.frames) → left + (p.end - p.start) ≡ len
+      → xs ≡ paste (vec_items f.frames) p.start (drop p.end (vec_items f.frames)) (len - p.end) → ys ≡ take left xs
+      → ys ≡ remove_range (vec_items f.frames) p.start p.end
+  moved len left xs ys el es ex ey =
+      let bs = vec_items f.frames in
+      let rest = drop p.end bs in
+      let k = len - p.end in
+      let e : left ≡ p.start + k = omega (arith, forward, within, el, es) in
+      let lr : length rest ≡ k = length-drop p.end bs ∙ omega (arith, el) in
+      ey ∙ (λ i. take (e i) (ex i)) ∙ take-paste bs p.start rest k (omega (arith, forward, within)) (omega (arith, lr))
+      ∙ (λ i. take p.start bs ++ take_all k rest (omega (arith, lr)) i)
 
   -- it is gone, and the bytes behind it have moved up
   pub left : (ys : List ℕ) → ys ≡ remove_range (vec_items f.frames) p.start p.end → Holds (f.count - 1) ys (remove (log f) (position_or_len (goes a b) (log f)))

@@ -1,5 +1,5 @@
 -- The bytes of a frame line and the log that they hold.
-use Rattle.std.proofs.Common.{◌≡◌, ℕ, zero, suc, ◌*◌, ◌≤◌, true, List, [], ◌∷◌, ◌++◌, length, drop, is_some, Some, None, Ok, Err, Option, Result, unwrap_or, vec_items, sym, refl, ap, ◌∙◌, arith, length-append}
+use Rattle.std.proofs.Common.{◌≡◌, ℕ, zero, suc, ◌*◌, ◌≤◌, true, List, [], ◌∷◌, ◌++◌, length, drop, is_some, Some, None, Ok, Err, Option, Result, unwrap_or, vec_items, sym, refl, ap, ◌∙◌, subst, arith, length-append}
 use Rattle.std.specs.List.{All}
 use Rattle.std.proofs.lemmas.List.Elements.{All-nil, All-cons, All-head, All-tail, All-weaker}
 use Rattle.std.proofs.lemmas.List.{take-append-drop}
@@ -34,7 +34,7 @@ unfolding framed
 framed_cons m ms = refl
 
 -- a frame takes at most 84 bytes
-framed_short : (log : List Msg) → All Fits log → length (framed log) ≤ 84 * length log
+pub framed_short : (log : List Msg) → All Fits log → length (framed log) ≤ 84 * length log
 unfolding framed
 framed_short [] h = omega arith
 framed_short (m ∷ log) h =
@@ -64,7 +64,7 @@ reads n bs (Err x) e h t = absurd (false≢true t)
 reads n bs (Ok p) e h t = joins n bs p.0 p.1 e (parsed n (drop p.1 bs)) (h (drop p.1 bs)) t
 
 -- the log of bytes that hold one
-holds : (n : ℕ) (bs : List ℕ) → is_some (parsed n bs) ≡ true → Holds n bs (unwrap_or (parsed n bs) [])
+pub holds : (n : ℕ) (bs : List ℕ) → is_some (parsed n bs) ≡ true → Holds n bs (unwrap_or (parsed n bs) [])
 unfolding parsed framed
 holds zero [] t = record { bytes = refl; many = refl; fit = All-nil Fits }
 holds zero (b ∷ bs) t = absurd (false≢true t)
@@ -80,7 +80,8 @@ closes_at (m ∷ log) fit =
 
 -- what bytes that hold this log say
 module _ (n : ℕ) (bs : List ℕ) (log : List Msg) (h : Holds n bs log) where
-  closes : parsed n bs ≡ Some log
+  -- they hold this log
+  pub closes : parsed n bs ≡ Some log
   closes = (λ i. parsed (sym h.many i) (h.bytes i)) ∙ closes_at log h.fit
 
   pub whole_of : is_some (parsed n bs) ≡ true
@@ -89,12 +90,33 @@ module _ (n : ℕ) (bs : List ℕ) (log : List Msg) (h : Holds n bs log) where
   pub log_of : unwrap_or (parsed n bs) [] ≡ log
   log_of = ap (λ (o : Option (List Msg)). unwrap_or o []) closes
 
+  pub short_of : length bs ≤ 84 * n
+  short_of = omega (arith, ap length h.bytes, framed_short log h.fit, h.many)
+
+-- bytes that hold a log are its frames
+pub opens : (n : ℕ) (bs : List ℕ) (log : List Msg) → parsed n bs ≡ Some log → Holds n bs log
+opens n bs log e =
+    subst (Holds n bs) (ap (λ (o : Option (List Msg)). unwrap_or o []) e)
+    (holds n bs (ap (λ (o : Option (List Msg)). is_some o) e))
+
+-- no byte is no frame
+pub holds_none : (bs : List ℕ) → bs ≡ [] → Holds 0 bs []
+unfolding framed
+holds_none bs e = record { bytes = e; many = refl; fit = All-nil Fits }
+
+-- the same bytes, as they are told
+pub holds_as : (n : ℕ) (xs bs : List ℕ) → is_some (parsed n xs) ≡ true → bs ≡ framed (unwrap_or (parsed n xs) []) → Holds n bs (unwrap_or (parsed n xs) [])
+holds_as n xs bs whole e = let h = holds n xs whole in record { bytes = e; many = h.many; fit = h.fit }
+
+pub all_proper : (log : List Msg) → All Fits log → All Proper log
+all_proper log h = All-weaker Fits Proper fits_proper log h
+
 -- what a frame line holds
 pub keeps : (f : FrameLine) → Holds f.count (vec_items f.frames) (log f)
 keeps f = holds f.count (vec_items f.frames) f.whole
 
 pub short : (f : FrameLine) → length (vec_items f.frames) ≤ 84 * f.count
-short f = let h = keeps f in omega (arith, ap length h.bytes, framed_short (log f) h.fit, h.many)
+short f = short_of f.count (vec_items f.frames) (log f) (keeps f)
 
 -- its bytes
 pub lie : (f : FrameLine) → vec_items f.frames ≡ framed (log f)
@@ -104,4 +126,4 @@ pub within : (f : FrameLine) → length (vec_items f.frames) ≤ 21504
 within f = omega (arith, short f, f.few)
 
 pub waits : (f : FrameLine) → total (paired (of (log f))) ≡ f.count
-waits f = let h = keeps f in total_of (log f) (All-weaker Fits Proper fits_proper (log f) h.fit) ∙ h.many
+waits f = let h = keeps f in total_of (log f) (all_proper (log f) h.fit) ∙ h.many

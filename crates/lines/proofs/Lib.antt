@@ -4,3 +4,4 @@ pub mod Framing
 pub mod Slots
 pub mod Buffer
 pub mod Cut
+pub mod Plain

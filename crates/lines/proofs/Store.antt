@@ -23,7 +23,7 @@ proper m =
     and_from _ _ (lt-ltb _ _ m.header.sender_in)
     (and_from _ _ (lt-ltb _ _ m.header.receiver_in) (not_from_false _ (ne_eqb _ _ m.header.apart)))
 
-all_proper : (ms : List Message) → All Proper (map msg_of ms)
+pub all_proper : (ms : List Message) → All Proper (map msg_of ms)
 all_proper ms = All-map Proper msg_of ms (λ i d lt. proper (get_or ms i d))
 
 pub waits : (ms : List Message) → total (paired (of (map msg_of ms))) ≡ length ms

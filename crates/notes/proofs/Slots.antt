@@ -1,5 +1,5 @@
 -- A queue in slots, up to the first free one.
-use Rattle.std.proofs.Common.{◌≡◌, ℕ, zero, suc, ◌+◌, ◌<◌, ◌≤◌, ◌≢◌, MatchBool, Bool, true, false, List, [], ◌∷◌, ◌++◌, length, get_or, take, drop, set, is_some, IfSome, IsSome, IsSomeAnd, MatchOption, replicate, Some, None, Option, refl, sym, ap, add-one, length-drop, length-set, arith}
+use Rattle.std.proofs.Common.{◌≡◌, ℕ, zero, suc, ◌<◌, ◌≤◌, ◌≢◌, MatchBool, Bool, true, false, List, [], ◌∷◌, ◌++◌, length, get_or, take, drop, set, is_some, IfSome, IsSome, IsSomeAnd, MatchOption, Some, None, Option, refl, sym, ap, arith}
 use Rattle.std.proofs.lemmas.List.{get_or_past}
 use Rattle.std.proofs.lemmas.Bool.{eq-eqb, ne_eqb, or_right, false≢true}
 use Rattle.notes.specs.declared.queue.Entry.{Entry}
@@ -26,26 +26,25 @@ none_first [] n = refl
 none_first (None ∷ xs) n = refl
 none_first (Some e ∷ xs) n = let z : ◌≡◌ {A = ℕ} 0 1 = cc in absurd (omega arith)
 
--- an entry in the first free slot, with none behind it
-placed : (i : ℕ) (xs zs : Slots) (e : Entry) → ((k : ℕ) → k < i → IsSome (get_or xs k None)) → i < length xs → get_or xs i None ≡ None → get_or zs 0 None ≡ None
-    → entries (take (suc i) (set xs i (Some e)) ++ zs) ≡ entries xs ++ e ∷ []
-placed zero [] zs e t l f n = absurd (omega arith)
-placed zero (x ∷ xs) zs e t l f n = rw (none_first (x ∷ xs) f, none_first zs n) refl
-placed (suc i) [] zs e t l f n = absurd (omega arith)
-placed (suc i) (None ∷ xs) zs e t l f n = absurd (false≢true (t 0 (omega arith)))
-placed (suc i) (Some x ∷ xs) zs e t l f n = ap (λ q. x ∷ q) (placed i xs zs e (λ k l. t (suc k) (omega arith)) (omega arith) f n)
+-- an entry in the first free slot, and the next one freed
+pub pushed : (i : ℕ) (xs : Slots) (e : Entry) → ((k : ℕ) → k < i → IsSome (get_or xs k None)) → suc i < length xs → get_or xs i None ≡ None
+    → entries (set (set xs i (Some e)) (suc i) None) ≡ entries xs ++ e ∷ []
+pushed zero [] e t l f = absurd (omega arith)
+pushed zero (x ∷ []) e t l f = absurd (omega arith)
+pushed zero (x ∷ y ∷ xs) e t l f = rw (none_first (x ∷ y ∷ xs) f) refl
+pushed (suc i) [] e t l f = absurd (omega arith)
+pushed (suc i) (None ∷ xs) e t l f = absurd (false≢true (t 0 (omega arith)))
+pushed (suc i) (Some x ∷ xs) e t l f = ap (λ q. x ∷ q) (pushed i xs e (λ k l. t (suc k) (omega arith)) (omega arith) f)
 
-free_first : (n : ℕ) (xs : Slots) → length xs ≤ n → get_or (replicate n None ++ drop n xs) 0 None ≡ None
-free_first zero [] l = refl
-free_first zero (x ∷ xs) l = absurd (omega arith)
-free_first (suc n) xs l = refl
-
--- the n slots behind it freed
-pub filled : (i n : ℕ) (xs : Slots) (e : Entry) → ((k : ℕ) → k < i → IsSome (get_or xs k None)) → get_or xs i None ≡ None → i + 1 + n ≡ length xs
-    → entries (take (i + 1) (set xs i (Some e)) ++ (replicate n None ++ drop n (drop (i + 1) (set xs i (Some e))))) ≡ entries xs ++ e ∷ []
-filled i n xs e t f l =
-    let ys = set xs i (Some e) in
-    rw add-one (placed i xs _ e t (omega arith) f (free_first n (drop (suc i) ys) (omega (arith, l, length-drop (suc i) ys, length-set xs i (Some e)))))
+-- and in the last slot
+pub pushed_last : (i : ℕ) (xs : Slots) (e : Entry) → ((k : ℕ) → k < i → IsSome (get_or xs k None)) → suc i ≡ length xs → get_or xs i None ≡ None
+    → entries (set xs i (Some e)) ≡ entries xs ++ e ∷ []
+pushed_last zero [] e t l f = absurd (omega arith)
+pushed_last zero (x ∷ []) e t l f = rw (none_first (x ∷ []) f) refl
+pushed_last zero (x ∷ y ∷ xs) e t l f = absurd (omega arith)
+pushed_last (suc i) [] e t l f = absurd (omega arith)
+pushed_last (suc i) (None ∷ xs) e t l f = absurd (false≢true (t 0 (omega arith)))
+pushed_last (suc i) (Some x ∷ xs) e t l f = ap (λ q. x ∷ q) (pushed_last i xs e (λ k l. t (suc k) (omega arith)) (omega arith) f)
 
 -- n slots are taken at most
 pub all_taken : (n : ℕ) (xs : Slots) → ((k : ℕ) → k < n → IsSome (get_or xs k None)) → n ≤ length (entries xs)

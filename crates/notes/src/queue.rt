@@ -52,7 +52,9 @@ impl Queue {
     {
         if let Some(place) = self.slots.iter().position(Option::is_none) {
             self.slots[place] = Some(entry);
-            self.slots[place + 1..].fill(None);
+            if place < 7 {
+                self.slots[place + 1] = None;
+            }
         }
     }
 

@@ -14,6 +14,7 @@ use Rattle.notes.specs.Queues.{queued}
 use Rattle.notes.specs.Notes.{Notes, is_waiting}
 use Rattle.notes.proofs.Bits.{alone, joins, leaves, gone, nobody}
 use Rattle.steps.specs.declared.serve.Verdict.TheVariants.{Recall}
+use Rattle.steps.specs.Steps.{stand}
 use Rattle.steps.specs.Serving.{verdict, mode_for, holders_for, granted, enqueued, returned}
 use Rattle.steps.specs.Soundness.{Apart, Fitting, Sound}
 use Rattle.steps.proofs.Crowds.{joins_apart, last_or}
@@ -114,3 +115,12 @@ left_sound h s r lh ls o i =
     go false x Own f = grind (arith, i, f, nobody s)
     go false x Shared f = eqb-false _ _ x
     go false x Away f = grind (arith, nat_tests, alone s f.0 ls f.1, f.2, i, gone s ls, x)
+
+-- the home is not queued unless it waits
+pub not_queued : (h : ℕ) (r : Notes) → Sound h r → is_waiting r.standing ≡ false → queued h r.home.queue ≡ false
+not_queued h r o f = false_from_ne_true (queued h r.home.queue) (λ t. both_ways _ f (o.own t))
+
+-- a home that is not queued may stand in any way
+pub stand_sound : (h : ℕ) (r : Notes) (st : Standing) → Sound h r → queued h r.home.queue ≡ false → Sound h (stand st r)
+stand_sound h r st o f =
+    record { apart = o.apart; own = λ i. absurd (both_ways _ f i); away = o.away; within = o.within; fitting = o.fitting }

@@ -1,8 +1,8 @@
 -- Messages posted one after another.
-use Rattle.std.proofs.Common.{◌≡◌, ℕ, zero, suc, ◌+◌, ◌<◌, ◌≤◌, Bool, true, false, cond, ◌||◌, eqb, leb, List, [], ◌∷◌, map, length, All, Some, None, Option, sym, refl, ap, ◌∙◌, arith}
+use Rattle.std.proofs.Common.{◌≡◌, ℕ, zero, suc, ◌+◌, ◌<◌, ◌≤◌, Bool, true, false, cond, ◌||◌, eqb, leb, List, [], ◌∷◌, ◌++◌, map, length, All, Some, None, Option, sym, refl, ap, ◌∙◌, ⊎_elim, arith, length-append}
 use Rattle.std.proofs.lemmas.Bool.Decides.{nat_tests}
 use Rattle.std.proofs.lemmas.List.Elements.{All-nil, All-cons, All-head, All-rest, All-append}
-use Rattle.std.proofs.lemmas.Bool.{true≢false}
+use Rattle.std.proofs.lemmas.Bool.{true≢false, cases_eq}
 use Rattle.line.specs.declared.fault.Misfit.{Misfit}
 use Rattle.line.specs.declared.fault.Misfit.TheVariants.{Receiver, Page, Sender}
 use Rattle.line.specs.declared.kind.Kind.TheVariants.{Invalidate}
@@ -10,6 +10,27 @@ use Rattle.line.specs.Messages.{Msg, msg, Fits}
 use Rattle.line.specs.Lists.{Lists, total, posted, sent}
 use Rattle.line.proofs.Totals.{total_posted}
 use Rattle.notes.specs.Sets.{isin, members_below, members}
+
+pub sent-++ : (xs ys : List Msg) (w : Lists) → sent (xs ++ ys) w ≡ sent ys (sent xs w)
+sent-++ [] ys w = refl
+sent-++ (x ∷ xs) ys w = sent-++ xs ys (posted x w)
+
+-- the stations below n among those below k
+pub fewer : (n k m : ℕ) → n ≤ k → length (members_below n m) ≤ length (members_below k m)
+unfolding members_below
+fewer zero zero m le = omega arith
+fewer (suc n) zero m le = absurd (omega arith)
+fewer n (suc k) m le =
+    ⊎_elim
+    (λ (e : n ≡ suc k). rw e (omega arith))
+    (λ (e : n ≡ suc k → ⊥).
+    let h = fewer n k m (omega arith) in
+    rw (length-append (members_below k m) (cond (isin k m) (k ∷ []) [])) (omega (arith, h)))
+    (cases_eq n (suc k))
+
+-- who is in a set and who is not
+pub apart : (h k m : ℕ) → isin h m ≡ false → isin k m ≡ true → k ≡ h → ⊥
+apart h k m f t e = true≢false (sym t ∙ ap (λ j. isin j m) e ∙ f)
 
 -- the messages that call back these stations
 abbrev calls : ℕ → ℕ → List ℕ → List Msg

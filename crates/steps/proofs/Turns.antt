@@ -23,6 +23,10 @@ use Rattle.steps.proofs.Kept.{first_in, granted_sound, awaiting_sound, recalled_
 pub none_is : (q : List Entry) → None ≡ oldest q → q ≡ []
 none_is q x = grind arith
 
+-- the first entry of any queue
+pub head_is : (q : List Entry) (e : Entry) → Some e ≡ oldest q → q ≡ e ∷ drop 1 q
+head_is q e x = grind (arith, x)
+
 -- a grant adds its messages to those that wait
 total_granted : (h g : ℕ) (t : List ℕ) (e : Entry) (r : Notes) (w : Lists) → h < 8 → e.station < 8
     → total (sent (granted h g t e r).posts w) ≡ total w + length (granted h g t e r).posts

@@ -27,7 +27,7 @@ impl Header {
     }
 
     /// The same for a kind.
-    pub(crate) fn of_kind(
+    pub fn of_kind(
         receiver: u32,
         kind: Kind,
         page: u32,

@@ -99,7 +99,10 @@ impl Line for FrameLine {
 
     fn drop_oldest(&mut self, pair: Pair) -> Result<(), LineFault> {
         let Slot { bytes, .. } = self.find(pair)?;
-        self.frames.drain(bytes);
+        // Not `drain`: it turns the frame and all bytes behind it through memory of its own, at many times the cost.
+        let left = self.frames.len() - (bytes.end - bytes.start);
+        self.frames.copy_within(bytes.end.., bytes.start);
+        self.frames.truncate(left);
         self.count -= 1;
         Ok(())
     }

@@ -1,12 +1,14 @@
-// Both operations on numbers and byte slices. A status and an offset are what C is told: it has no Result.
+// Both operations on numbers and byte slices: the crate `frame_c` exports them to C. They stand here, since no Rattle crate
+// can use a static library. A status and an offset are what C is told: it has no Result.
 ghost use Rattle.std.specs.Prelude.{◌≡◌};
 ghost use Rattle.std.specs.Result.{result_map_both};
 ghost use Rattle.line.specs.View.{msg_of};
 ghost use Rattle.frame.specs.Refusals.{told};
 ghost use Rattle.frame.specs.Frames.{decoded};
-ghost use Rattle.frame_c.specs.Exports.{read_as, written_as, composed, sent, offset as offset_of};
+ghost use Rattle.frame.specs.Exports.{read_as, written_as, composed, sent, offset as offset_of};
 
-use frame::{FrameFault, read, write};
+use crate::codec::{read, write};
+use crate::fault::FrameFault;
 use line::{Header, Message, Place, Refusal};
 
 /// What was read. Status 0: the message, whose text is the `length` bytes from 20 on, and in `at` the bytes taken.
@@ -42,6 +44,20 @@ fn offset(place: Place) -> usize
     }
 }
 
+/// The message of these numbers and this text.
+pub fn compose(
+    receiver: u32,
+    kind: u32,
+    page: u32,
+    sender: u32,
+    text: &[u8],
+) -> Result<Message, FrameFault>
+    ensures { result_map_both msg_of told result ≡ composed receiver kind page sender text.now }
+{
+    let header = Header::new(receiver, kind, page, sender, text.len())?;
+    Ok(Message::with_text(header, text))
+}
+
 /// Writes the frame of these numbers and this text into `out`.
 fn write_parts(
     receiver: u32,
@@ -53,13 +69,12 @@ fn write_parts(
 ) -> Result<usize, FrameFault>
     ensures { (written_as (result_map_both (λ n. n) told result), out.new) ≡ sent (composed receiver kind page sender text.now) out.old }
 {
-    let header = Header::new(receiver, kind, page, sender, text.len())?;
-    write(&Message::with_text(header, text), out)
+    let message = compose(receiver, kind, page, sender, text)?;
+    write(&message, out)
 }
 
 /// Reads the frame at the start of `bytes`.
-#[unsafe(no_mangle)]
-pub extern "C" fn folgainu_frame_read(bytes: &[u8]) -> FrameRead
+pub fn folgainu_frame_read(bytes: &[u8]) -> FrameRead
     ensures { result ≡ read_as (decoded bytes.now) }
 {
     match read(bytes) {
@@ -84,8 +99,7 @@ pub extern "C" fn folgainu_frame_read(bytes: &[u8]) -> FrameRead
 }
 
 /// Writes a frame at the start of `out`: NO MESSAGE for numbers that make none, then BUFFER.
-#[unsafe(no_mangle)]
-pub extern "C" fn folgainu_frame_write(
+pub fn folgainu_frame_write(
     receiver: u32,
     kind: u32,
     page: u32,

@@ -8,8 +8,8 @@ use Rattle.line.specs.declared.refusal.Refusal.{Refusal}
 use Rattle.line.specs.Kinds.{number}
 use Rattle.line.specs.Refusals.{misfits}
 use Rattle.line.specs.Messages.{Msg, msg, headed}
-use Rattle.frame_c.specs.declared.exports.FrameRead.{FrameRead}
-use Rattle.frame_c.specs.declared.exports.FrameWritten.{FrameWritten}
+use Rattle.frame.specs.declared.exports.FrameRead.{FrameRead}
+use Rattle.frame.specs.declared.exports.FrameWritten.{FrameWritten}
 use Rattle.frame.specs.Frames.{written}
 
 -- the offset of a frame's fault; other places have none
