@@ -1,5 +1,5 @@
 -- What a message does at its page's home is what it does to the page.
-use Rattle.std.proofs.Common.{◌≡◌, ℕ, ◌<◌, ◌≤◌, Bool, true, false, cond, not, ◌&&◌, eqb, List, [], ◌∷◌, ◌++◌, length, sym, refl, ap, ◌∙◌, arith}
+use Rattle.std.proofs.Common.{◌≡◌, ℕ, ◌<◌, ◌≤◌, Bool, true, false, cond, not, ◌&&◌, eqb, ltb, List, [], ◌∷◌, ◌++◌, length, sym, refl, ap, ◌∙◌, arith}
 use mathlib.Core.Path.{fun_ext}
 use Rattle.std.proofs.lemmas.List.{map-append}
 use Rattle.std.specs.Option.{is_some}
@@ -20,16 +20,23 @@ use Rattle.delivery.specs.Deliveries.{is_away}
 use Rattle.steps.specs.Serving.{serve, enqueued, left_by, returned}
 use Rattle.delivery.specs.Deliveries.{from_home, received, expected}
 use Rattle.law.specs.State.{State, state}
-use Rattle.law.proofs.Model.{Text, Up, Link, mine, theirs, world, wish_in, remote, placed, heard_link, left_link, unheld, serve_world, fits_up, returned_world, arrived_world, nobody}
+use Rattle.law.proofs.Model.{Text, Up, Down, Link, mine, theirs, world, wish_in, remote, placed, heard_link, left_link, unheld, serve_world, fits_up, returned_world, arrived_world, nobody}
 use Rattle.law.proofs.Phases.{never'}
 use Rattle.law.proofs.Facts.{UpText}
 use Rattle.law.proofs.Desks.{eqb_same}
 use Rattle.law.proofs.Serves.{remote_lt}
 use Rattle.law.proofs.Flags.{flag, in_range, flag_leave, scan_empty}
-use Rattle.law.proofs.Views.{as_up, downs, ups, places, linked, links, noted, view, page_of, holds, awaits, Sound, place}
+use Rattle.law.proofs.Views.{as_up, as_down, downs, ups, places, linked, links, noted, view, page_of, holds, awaits, Sound, place}
 use Rattle.law.proofs.Lines.{turned, taken_here, taken_other}
 use Rattle.law.proofs.Homes.{remote_not, sound_add, sound_leave}
 use Rattle.law.proofs.Steps.{at_link}
+
+-- what a message makes of its list is not empty
+pub some_up : (k : Kind) (x : Text) (u : List Up) → from_home k ≡ false → ltb 0 (length (as_up k x ++ u)) ≡ true
+some_up k x u f = grind (arith, nat_tests, f)
+
+pub some_down : (k : Kind) (x : Text) (d : List Down) → from_home k ≡ true → ltb 0 (length (as_down k x ++ d)) ≡ true
+some_down k x d f = grind (arith, nat_tests, f)
 
 abbrev pub hear_row : Kind → ℕ → Notes → Notes
 hear_row ReadRequest s r = enqueued s Read r

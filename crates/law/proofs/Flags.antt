@@ -1,5 +1,5 @@
 -- Sets of stations, member by member.
-use Rattle.std.proofs.Common.{◌≡◌, ℕ, ◌-◌, ◌^◌, ◌<◌, Bool, true, false, cond, ◌&&◌, eqb, ltb, sym, refl, ◌∙◌, arith}
+use Rattle.std.proofs.Common.{◌≡◌, ℕ, ◌-◌, ◌^◌, ◌<◌, ◌≤◌, Bool, true, false, cond, ◌&&◌, eqb, ltb, sym, refl, ◌∙◌, arith}
 use native.Mathlib.Nat.{zero-div}
 use lib.Bits.{or_lt, and_le_l}
 use lib.Pow.{pow-lt}
@@ -16,6 +16,9 @@ flag j m = ltb j 8 && isin j m
 
 pub in_range : (j m : ℕ) → j < 8 → flag j m ≡ isin j m
 in_range j m l = grind (arith, nat_tests)
+
+pub out_of_range : (j m : ℕ) → 8 ≤ j → flag j m ≡ false
+out_of_range j m l = grind (arith, nat_tests)
 
 pub flag_join : (j s m : ℕ) → s < 8 → flag j (joined m s) ≡ cond (eqb j s) true (flag j m)
 flag_join j s m l = grind (arith, nat_tests, joins j s m)

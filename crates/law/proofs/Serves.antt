@@ -1,7 +1,7 @@
 -- Serving: each grant and each recall keeps what is known, and serving ends settled.
 use Rattle.std.proofs.Common.{◌≡◌, ℕ, ◌<◌, Bool, true, false, cond, ◌&&◌, eqb, ltb, List, [], ◌∷◌, sym, refl, ap, ◌∙◌, subst, arith, Option, Some, None}
 use Rattle.std.proofs.lemmas.Bool.Decides.{nat_tests}
-use Rattle.std.proofs.lemmas.Bool.{and_left, and_parts, true_from_ne_false, both_ways, false_from_ne_true}
+use Rattle.std.proofs.lemmas.Bool.{and_left, and_parts, true_from_ne_false, both_ways, false_from_ne_true, le-ltb}
 use Rattle.notes.specs.declared.row.Access.{Access}
 use Rattle.notes.specs.declared.row.Access.TheVariants.{Read, Write}
 use Rattle.notes.specs.declared.row.Standing.{Standing}
@@ -24,6 +24,12 @@ remote_lt n h j e = grind (arith, nat_tests)
 -- a test that fails outside and passes for none below n passes for none
 pub nowhere : (n h : ℕ) (p : ℕ → Bool) → ((j : ℕ) → remote n h j ≡ false → p j ≡ false) → none n p ≡ true → (j : ℕ) → p j ≡ false
 nowhere n h p o e j = grind (arith, none_true n p e j, remote_lt n h j, o j)
+
+pub not_own_away : (m : Mode) → is_own m ≡ true → is_away m ≡ false
+not_own_away m e = grind (arith, e)
+
+pub ltb_same : (x : ℕ) → ltb x x ≡ false
+ltb_same x = le-ltb x x (omega arith)
 
 pub record Granted (n h : ℕ) (f : ℕ → Link) (w : World) (q : List Place) : Type 0 where
   pub pre : PreOf n h w q

@@ -7,13 +7,13 @@ use Rattle.line.specs.Messages.{Msg}
 use Rattle.line.specs.View.{msg_of}
 use Rattle.line.specs.Lists.{Lists, sum_to, total, posted, posting, postings}
 
-sum_to_same : (n : ℕ) (f g : ℕ → ℕ) → ((i : ℕ) → i < n → g i ≡ f i) → sum_to n g ≡ sum_to n f
+pub sum_to_same : (n : ℕ) (f g : ℕ → ℕ) → ((i : ℕ) → i < n → g i ≡ f i) → sum_to n g ≡ sum_to n f
 unfolding sum_to
 sum_to_same zero f g h = refl
 sum_to_same (suc n) f g h = omega (arith, sum_to_same n f g (λ i lt. h i (omega arith)), h n (omega arith))
 
 -- one summand, at j, is greater by one
-sum_to_more : (n j : ℕ) (f g : ℕ → ℕ) → j < n → g j ≡ f j + 1 → ((i : ℕ) → (i ≡ j → ⊥) → g i ≡ f i)
+pub sum_to_more : (n j : ℕ) (f g : ℕ → ℕ) → j < n → g j ≡ f j + 1 → ((i : ℕ) → (i ≡ j → ⊥) → g i ≡ f i)
     → sum_to n g ≡ sum_to n f + 1
 unfolding sum_to
 sum_to_more zero j f g lt here others = omega arith

@@ -86,10 +86,12 @@ module _ (f : FrameLine) (a b : ℕ) (p : Spot) (found : Ok p ≡ searched a b (
       ∙ leaves p.message (framed cut.back)
 
   -- the bytes behind it are copied over it, and the rest is cut off
-  pub moved : (len left : ℕ) (xs ys : List ℕ) → len ≡ length (vec_items f.frames) → left + (p.end - p.start) ≡ len
-      → xs ≡ paste (vec_items f.frames) p.start (drop p.end (vec_items f.frames)) (len - p.end) → ys ≡ take left xs
+  pub moved : (from to len left : ℕ) (xs ys : List ℕ) → len ≡ length (vec_items f.frames) → left + (p.end - p.start) ≡ len
+      → xs ≡ paste (vec_items f.frames) to (drop from (vec_items f.frames)) (len - from) → ys ≡ take left xs → from ≡ p.end → to ≡ p.start
       → ys ≡ remove_range (vec_items f.frames) p.start p.end
-  moved len left xs ys el es ex ey =
+  moved from to len left xs ys el es ex' ey ef et =
+      let ex : xs ≡ paste (vec_items f.frames) p.start (drop p.end (vec_items f.frames)) (len - p.end) =
+      ex' ∙ (λ i. paste (vec_items f.frames) (et i) (drop (ef i) (vec_items f.frames)) (len - ef i)) in
       let bs = vec_items f.frames in
       let rest = drop p.end bs in
       let k = len - p.end in

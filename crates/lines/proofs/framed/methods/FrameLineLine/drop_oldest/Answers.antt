@@ -41,8 +41,8 @@ invariant_of-self c =
     let b = c.args.pair.receiver in
     let e = within c.args.self.now a b _ c.in_ok-bytes.ensures in
     let f = forward c.args.self.now a b _ c.in_ok-bytes.ensures in
-    let m = moved c.args.self.now a b _ c.in_ok-bytes.ensures c.args.self.now.frames.len _ _ _ c.args.self.now.frames.ok.0
-    (omega (arith, c.len.ensures, c.args.self.now.frames.ok.0, e, f)) c.copy_within.ensures.items c.truncate.ensures.items in
+    let m = moved c.args.self.now a b _ c.in_ok-bytes.ensures _ _ c.args.self.now.frames.len _ _ _ c.args.self.now.frames.ok.0
+    (omega (arith, c.len.ensures, c.args.self.now.frames.ok.0, e, f)) c.copy_within.ensures.items c.truncate.ensures.items (grind arith) (grind arith) in
     let h = left c.args.self.now a b _ c.in_ok-bytes.ensures _ m in
     record {
       few = omega (arith, c.args.self.now.few);
@@ -56,7 +56,7 @@ returns c =
     let b = c.args.pair.receiver in
     let e = within c.args.self.now a b _ c.in_ok-bytes.ensures in
     let f = forward c.args.self.now a b _ c.in_ok-bytes.ensures in
-    let m = moved c.args.self.now a b _ c.in_ok-bytes.ensures c.args.self.now.frames.len _ _ _ c.args.self.now.frames.ok.0
-    (omega (arith, c.len.ensures, c.args.self.now.frames.ok.0, e, f)) c.copy_within.ensures.items c.truncate.ensures.items in
+    let m = moved c.args.self.now a b _ c.in_ok-bytes.ensures _ _ c.args.self.now.frames.len _ _ _ c.args.self.now.frames.ok.0
+    (omega (arith, c.len.ensures, c.args.self.now.frames.ok.0, e, f)) c.copy_within.ensures.items c.truncate.ensures.items (grind arith) (grind arith) in
     let h = left c.args.self.now a b _ c.in_ok-bytes.ensures _ m in
     drops (λ p. p.message) a b (log c.args.self.now) _ (first (goes a b) 0 (log c.args.self.now)) _ c.in_ok-bytes.ensures _ refl _ (log_of _ _ _ h)
